@@ -1,0 +1,6 @@
+//! The texts of this project: scenes, which are read, and histories, which are printed.
+//!
+//! A scene is a text of lines; what it means, and which line is refused for what, stands as a
+//! function on bytes in `specs/`, and [`read_scene`] equals it. The text of a history stands there
+//! too, and the program's printer equals that.
+#![tactic(auto)]
