@@ -1,0 +1,5 @@
+pub mod Examples
+pub mod KeyLemmas
+pub mod LinkLemmas
+pub mod ListLemmas
+pub mod Rounds

@@ -1,0 +1,5 @@
+pub mod Keys
+pub mod Links
+pub mod Names
+pub mod Numbers
+pub mod Places
