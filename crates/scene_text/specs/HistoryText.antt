@@ -39,9 +39,16 @@ pub record Printed : Type 0 where
   pub payload : List ℕ
   pub heard : List ℕ
 
+-- who made the n-th entry, and what happened
+abbrev pub who_text : List (List ℕ) → ℕ → ℕ → List ℕ
+who_text actors n actor = decimal n ++ (codes " " ++ (actor_text actors actor ++ codes " "))
+
+abbrev pub what_text : Printed → Entry → List ℕ
+what_text p e = event_text p.names p.payload e.event ++ (codes ": " ++ (reply_text p.heard e.reply ++ codes "\n"))
+
 -- the n-th entry: its number, the actor, the event and the reply
 abbrev pub entry_text : Printed → ℕ → Entry → List ℕ
-entry_text p n e = decimal n ++ (codes " " ++ (actor_text p.actors e.actor ++ (codes " " ++ (event_text p.names p.payload e.event ++ (codes ": " ++ (reply_text p.heard e.reply ++ codes "\n"))))))
+entry_text p n e = who_text p.actors n e.actor ++ what_text p e
 
 -- entries, of which the first has number n
 abbrev pub entries_text : Printed → ℕ → List Entry → List ℕ
@@ -124,19 +131,20 @@ wrote_at x s e = if is_call_on x s e.event then taken_by e.reply else 0
 abbrev pub read_at : Side → ℕ → Entry → ℕ
 read_at x s e = if is_call_on x s e.event then handed_by e.reply else 0
 
+-- what an end wrote and read in all
+abbrev pub sums_text : List Entry → Side → ℕ → List ℕ
+sums_text history x s = codes " wrote " ++ (decimal (sum_by (wrote_at x s) history) ++ (codes " read " ++ decimal (sum_by (read_at x s) history)))
+
 -- a socket with the sums of its two ends
-abbrev pub socket_text : Printed → List Entry → ℕ → List ℕ
-socket_text p history s =
-    codes "socket " ++ (name_text p.names s ++
-    (codes " A wrote " ++ (decimal (sum_by (wrote_at A s) history) ++ (codes " read " ++ (decimal (sum_by (read_at A s) history) ++
-    (codes " B wrote " ++ (decimal (sum_by (wrote_at B s) history) ++ (codes " read " ++ (decimal (sum_by (read_at B s) history) ++ codes "\n")))))))))
+abbrev pub socket_text : List (List ℕ) → List Entry → ℕ → List ℕ
+socket_text names history s = codes "socket " ++ (name_text names s ++ (codes " A" ++ (sums_text history A s ++ (codes " B" ++ (sums_text history B s ++ codes "\n")))))
 
 -- how a run ended: with so many entries, or with a step that was refused
-abbrev pub end_line : List Entry → Option StepFault → List ℕ
-end_line history None = codes "ok " ++ (decimal (length history) ++ codes "\n")
-end_line history (Some (Spent entries)) = codes "spent entries " ++ (decimal entries ++ codes "\n")
-end_line history (Some (BytesSpent bytes)) = codes "spent bytes " ++ (decimal bytes ++ codes "\n")
+abbrev pub end_line : ℕ → Option StepFault → List ℕ
+end_line entries None = codes "ok " ++ (decimal entries ++ codes "\n")
+end_line entries (Some (Spent limit)) = codes "spent entries " ++ (decimal limit ++ codes "\n")
+end_line entries (Some (BytesSpent bytes)) = codes "spent bytes " ++ (decimal bytes ++ codes "\n")
 
 -- the whole text: the entries, the sockets, the end
 abbrev pub history_text : Printed → List Entry → Option StepFault → List ℕ
-history_text p history stop = entries_text p 1 history ++ (flat_map (socket_text p history) (sockets_after [] history) ++ end_line history stop)
+history_text p history stop = entries_text p 1 history ++ (flat_map (socket_text p.names history) (sockets_after [] history) ++ end_line (length history) stop)
