@@ -1,10 +1,10 @@
 //! The printer: it appends the texts of a history to one buffer.
 ghost use Rattle.std.specs.Prelude.{◌≡◌, ◌++◌, ◌∷◌, ◌+◌, ◌<◌, ◌≤◌, ◌^◌, ℕ, OnOk, IfOk, [], codes, length};
-ghost use Rattle.std.specs.List.{sum_by, flat_map, All};
+ghost use Rattle.std.specs.List.{sum_by, flat_map};
 ghost use Rattle.std.specs.Fmt.{decimal};
 ghost use Rattle.scene_text.specs.Spelling.{hex_digit, hex_byte, run_text, bytes_text, side_text, name_text, end_text, payload_part, event_text};
 ghost use Rattle.scene_text.specs.HistoryText.{reply_text, actor_text, who_text, what_text, entry_text, entries_text, socket_of, begins_socket, listed_with, listed_after, sockets_after, is_call_on, taken_by, handed_by, wrote_at, read_at, sums_text, socket_text, end_line, history_text};
-ghost use Rattle.smcr_cli.specs.Prints.{names_of, printed, NamesBytes, NamesHeard, IsPrintable};
+ghost use Rattle.smcr_cli.specs.Prints.{names_of, printed};
 
 use itoa::Buffer;
 use pipe_model::{End, Entry, Event, Reply, Side, StepFault};
@@ -123,13 +123,20 @@ fn push_end(out: &mut Vec<u8>, names: &[String], end: End) -> Result<(), AllocEr
     push_name(out, names, end.s)
 }
 
-/// Appends the bytes that an event names.
+/// The bytes from a place on, at most so many, as far as there are any.
+#[tactic(auto, using(std::proofs::lemmas::List::take_min, std::proofs::lemmas::List::drop_min))]
+fn part(bytes: &[u8], at: u32, len: u32) -> &[u8]
+    ensures { result.now ≡ payload_part bytes.now at len }
+{
+    let rest = &bytes[(at as usize).min(bytes.len())..];
+    &rest[..(len as usize).min(rest.len())]
+}
+
+/// Appends some of the bytes in runs.
 fn push_part(out: &mut Vec<u8>, bytes: &[u8], at: u32, len: u32) -> Result<(), AllocError>
-    requires { at + len ≤ length bytes.now }
     ensures { OnOk result (out.new.items ≡ out.old.items ++ bytes_text (payload_part bytes.now at len)) }
 {
-    let at = at as usize;
-    push_bytes(out, &bytes[at..at + len as usize])
+    push_bytes(out, part(bytes, at, len))
 }
 
 /// Appends a word, a space and a call's end.
@@ -178,7 +185,6 @@ pub fn push_event(
     payload: &[u8],
     event: Event,
 ) -> Result<(), AllocError>
-    requires { NamesBytes (length payload.now) event }
     ensures { OnOk result (out.new.items ≡ out.old.items ++ event_text (names_of names.now) payload.now event) }
 {
     match event {
@@ -230,7 +236,6 @@ pub fn push_event(
 
 /// Appends a reply; `heard` is all that was handed out.
 pub fn push_reply(out: &mut Vec<u8>, heard: &[u8], reply: Reply) -> Result<(), AllocError>
-    requires { NamesHeard (length heard.now) reply }
     ensures { OnOk result (out.new.items ≡ out.old.items ++ reply_text heard.now reply) }
 {
     match reply {
@@ -285,7 +290,6 @@ fn push_who(
 
 /// Appends an event and its reply.
 fn push_what(out: &mut Vec<u8>, texts: &Texts<'_>, entry: &Entry) -> Result<(), AllocError>
-    requires { IsPrintable (length texts.now.payload.now) (length texts.now.heard.now) entry.now }
     ensures { OnOk result (out.new.items ≡ out.old.items ++ what_text (printed texts.now) entry.now) }
 {
     push_event(out, texts.names, texts.payload, entry.event)?;
@@ -301,7 +305,6 @@ pub fn push_entry(
     number: u64,
     entry: &Entry,
 ) -> Result<(), AllocError>
-    requires { IsPrintable (length texts.now.payload.now) (length texts.now.heard.now) entry.now }
     ensures { OnOk result (out.new.items ≡ out.old.items ++ entry_text (printed texts.now) number entry.now) }
 {
     push_who(out, texts.actors, number, entry.actor)?;
@@ -310,7 +313,6 @@ pub fn push_entry(
 
 /// Appends the lines of all entries.
 fn push_entries(out: &mut Vec<u8>, texts: &Texts<'_>, history: &[Entry]) -> Result<(), AllocError>
-    requires { All (IsPrintable (length texts.now.payload.now) (length texts.now.heard.now)) history.now }
     ensures { OnOk result (out.new.items ≡ out.old.items ++ entries_text (printed texts.now) 1 history.now) }
 {
     for (index, entry) in history.iter().enumerate() {
@@ -491,8 +493,7 @@ pub fn push_history(
     history: &[Entry],
     stop: Option<StepFault>,
 ) -> Result<(), AllocError>
-    requires printable { All (IsPrintable (length texts.now.payload.now) (length texts.now.heard.now)) history.now }
-    requires few { length history.now < 2 ^ 32 }
+    requires { length history.now < 2 ^ 32 }
     ensures { OnOk result (out.new.items ≡ out.old.items ++ history_text (printed texts.now) history.now stop) }
 {
     push_entries(out, texts, history)?;

@@ -328,7 +328,8 @@ impl World {
 
     /// All entries, the oldest first.
     pub fn history(&self) -> &[Entry]
-        ensures { result.now ≡ self.now.history }
+        ensures history { result.now ≡ self.now.history }
+        ensures few { length result.now ≤ 2 ^ 18 }
     {
         self.history.as_slice()
     }
