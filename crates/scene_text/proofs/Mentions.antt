@@ -1,13 +1,12 @@
 -- A name is among those that were mentioned, or goes behind them.
-use Rattle.std.proofs.Common.{◌≡◌, ◌∙◌, ℕ, ◌+◌, ◌<◌, ◌≤◌, Bool, true, false, List, [], ◌∷◌, ◌++◌, length, map, Option, Some, None, position, String, string_bytes, string_eq, cond, ltb, is_some, refl, ap, sym, arith, true≢false, suc}
-use Rattle.std.specs.List.{prefix_len, position_or_len}
-use Rattle.std.specs.Prelude.{if◌then◌else◌, nat_lt, not}
+use Rattle.std.proofs.Common.{◌≡◌, ℕ, ◌+◌, ◌≤◌, Bool, true, false, List, [], ◌∷◌, ◌++◌, length, map, Option, Some, None, position, String, string_bytes, cond, is_some, refl, ap, sym, arith, true≢false, suc}
+use Rattle.std.specs.List.{position_or_len}
+use Rattle.std.specs.Prelude.{not}
 use Rattle.std.specs.Str.{bytes_eq}
 use Rattle.std.specs.Map.{keys_of}
-use Rattle.std.proofs.lemmas.Bool.{cond-true, cond-false, ltb-true, ltb-false}
+use Rattle.std.proofs.lemmas.Bool.{cond-true, cond-false, ltb-false}
 use Rattle.std.proofs.lemmas.Option.{cond_some}
 use Rattle.std.proofs.lemmas.List.{length-map}
-use Rattle.std.proofs.lemmas.Map.Entries.{length-keys_of}
 use Rattle.scene_text.specs.Scenes.{socket_of, mentioned}
 use Rattle.scene_text.proofs.Cutting.{cond_none}
 
@@ -47,12 +46,12 @@ is_none (Some x) e = absurd (true≢false e)
 module _ (names : List (List ℕ)) (name : List ℕ) where
   pub found : (s : ℕ) → position (bytes_eq name) names ≡ Some s → (s ≡ socket_of names name) × (names ≡ mentioned names name)
   found s e =
-    let at = cond_some _ _ _ e in
-    (sym at.1, sym (cond-true _ names (names ++ name ∷ []) at.0))
+      let at = cond_some _ _ _ e in
+      (sym at.1, sym (cond-true _ names (names ++ name ∷ []) at.0))
 
   pub added : position (bytes_eq name) names ≡ None → (length names ≡ socket_of names name) × (names ++ name ∷ [] ≡ mentioned names name)
   added e =
-    let past = cond_none _ _ e in
-    let within = place_within (bytes_eq name) names in
-    let beyond : length names ≤ socket_of names name = ltb-false _ _ past in
-    (omega arith, sym (cond-false _ names (names ++ name ∷ []) past))
+      let past = cond_none _ _ e in
+      let within = place_within (bytes_eq name) names in
+      let beyond : length names ≤ socket_of names name = ltb-false _ _ past in
+      (omega arith, sym (cond-false _ names (names ++ name ∷ []) past))

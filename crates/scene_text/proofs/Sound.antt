@@ -1,11 +1,10 @@
 -- Each line of a scene fits it.
-use Rattle.std.proofs.Common.{◌≡◌, ◌∙◌, ℕ, ◌+◌, ◌<◌, ◌≤◌, max, Bool, true, false, List, [], ◌∷◌, ◌++◌, length, Result, Ok, Err, cond, ltb, refl, ap, sym, subst, arith}
+use Rattle.std.proofs.Common.{◌≡◌, ℕ, ◌+◌, ◌<◌, ◌≤◌, max, Bool, true, false, List, [], ◌∷◌, ◌++◌, length, Result, Ok, Err, cond, ltb, refl, ap, sym, subst, arith}
 use Rattle.std.specs.List.{All, list_all}
 use Rattle.std.specs.Prelude.{nat_le, ◌&&◌}
 use Rattle.std.proofs.lemmas.Bool.{ltb-true, leb-true, and_parts}
 use Rattle.std.proofs.lemmas.List.{length-append}
 use Rattle.std.proofs.lemmas.List.Elements.{All-nil, All-push, All-weaker}
-use Rattle.std.proofs.lemmas.Bool.Decides.{nat_tests}
 use Rattle.pipe_model.specs.declared.Setup.{Setup}
 use Rattle.pipe_model.specs.declared.Event.{Event}
 use Rattle.pipe_model.specs.declared.Event.TheVariants.{Open, Raw, Write, Read, Finish, Close, Abort, Await, Clc, Deliver, Complete, Swallow, Cut, Heal, Report, Move, Grow, Test, Trim}
@@ -13,8 +12,6 @@ use Rattle.pipe_model.specs.Settings.{default_setup, default_room}
 use Rattle.pipe_model.specs.Fits.{Fits}
 use Rattle.scene_text.specs.declared.faults.LineKind.{LineKind}
 use Rattle.scene_text.specs.declared.faults.LineKind.TheVariants as kinds
-use Rattle.scene_text.specs.declared.faults.LineFault.{LineFault}
-use Rattle.scene_text.specs.declared.faults.SceneFault.{SceneFault}
 use Rattle.scene_text.specs.declared.grammar.Command.{Command}
 use Rattle.scene_text.specs.declared.grammar.Command.TheVariants as commands
 use Rattle.scene_text.specs.declared.limits.TheConstants.{MOST_PUMP_STEPS, MOST_READ_BYTES}
@@ -22,7 +19,7 @@ use Rattle.scene_text.specs.declared.scenes.SceneWhat.{SceneWhat}
 use Rattle.scene_text.specs.declared.scenes.SceneWhat.TheVariants.{One, Pump}
 use Rattle.scene_text.specs.declared.scenes.SceneLine.{SceneLine}
 use Rattle.scene_text.specs.Words.{◌>>=◌, NamedEnd, number_of, number_in, name_of, end_of, runs_of, bytes_in, words_of}
-use Rattle.scene_text.specs.Scenes.{PlainScene, empty_scene, socket_of, mentioned, with_name, with_bytes, with_line, opens, pumps, writes, reads, with_sockets, within_limits, IsWithinLimits, WhatFits, LineFits, IsSound}
+use Rattle.scene_text.specs.Scenes.{PlainScene, empty_scene, socket_of, mentioned, with_line, opens, pumps, writes, reads, with_sockets, WhatFits, LineFits, IsSound}
 use Rattle.scene_text.specs.Grammar.{command_of, row_of, words_said, is_printable, line_said, is_passed_over, limited, after_line, at_line, after_lines}
 use Rattle.scene_text.proofs.Mentions.{socket_within}
 use Rattle.scene_text.proofs.Reading.{bind_ok, not_passed, at_line_ok, lines_within}

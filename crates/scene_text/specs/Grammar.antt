@@ -1,6 +1,6 @@
 -- The grammar of scenes.
 -- A reader learns here which texts are scenes, what each line does, and which line is refused for what.
-use Rattle.std.specs.Prelude.{◌≡◌, ℕ, ◌+◌, ◌==◌, ◌&&◌, ◌||◌, max, nat_le, Bool, true, List, [], ◌∷◌, length, codes, Result, Ok, Err, MatchResult, if◌then◌else◌}
+use Rattle.std.specs.Prelude.{◌≡◌, ℕ, ◌+◌, ◌==◌, ◌&&◌, ◌||◌, nat_le, Bool, true, List, [], ◌∷◌, codes, Result, Ok, Err, MatchResult, if◌then◌else◌}
 use Rattle.std.specs.List.{list_all}
 use Rattle.std.specs.Str.{bytes_eq}
 use Rattle.std.specs.Str.Lines.{lines}
@@ -77,6 +77,7 @@ fault_at n NoMemory = faults.NoMemory
 fault_at n (Bad kind) = faults.BadLine n kind
 fault_at n (Passes limit) = faults.TooMany n limit
 
+-- the scene after that line
 abbrev pub at_line : ℕ → Result PlainScene LineFault → Result PlainScene SceneFault
 at_line n (Ok scene) = Ok scene
 at_line n (Err fault) = Err (fault_at n fault)

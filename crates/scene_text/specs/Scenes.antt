@@ -1,6 +1,6 @@
 -- What a scene is, and what its lines do to it.
 -- A reader learns here how names are numbered, where the bytes of a write lie, and what a scene may hold.
-use Rattle.std.specs.Prelude.{◌≡◌, ℕ, ◌+◌, ◌<◌, ◌≤◌, ◌^◌, max, nat_lt, List, [], ◌∷◌, ◌++◌, length, map, Option, Some, None, Result, Ok, Err, String, string_bytes, if◌then◌else◌}
+use Rattle.std.specs.Prelude.{◌≡◌, ℕ, ◌≤◌, max, nat_lt, List, [], ◌∷◌, ◌++◌, length, map, Option, Some, None, Result, Ok, Err, String, string_bytes, if◌then◌else◌}
 use Rattle.std.specs.List.{position_or_len, All}
 use Rattle.std.specs.Str.{bytes_eq}
 use Rattle.indexmap.specs.IndexMap.{IndexMap, keys}
@@ -30,7 +30,7 @@ pub record PlainScene : Type 0 where
 
 -- the names that a map holds, in their order
 abbrev pub names_in : {A H : Type 0} → IndexMap (String A) (Unit {0}) H → List (List ℕ)
-names_in map' = map string_bytes (keys map')
+names_in names = map string_bytes (keys names)
 
 -- what the definitions see of a scene
 abbrev pub plain : Scene → PlainScene
@@ -55,6 +55,7 @@ socket_of names name = position_or_len (bytes_eq name) names
 abbrev pub mentioned : List (List ℕ) → List ℕ → List (List ℕ)
 mentioned names name = if nat_lt (socket_of names name) (length names) then names else names ++ name ∷ []
 
+-- a scene that mentions a name, has more bytes, has one more line
 abbrev pub with_name : List ℕ → PlainScene → PlainScene
 with_name name scene = record scene { names = mentioned scene.names name }
 
@@ -68,7 +69,7 @@ with_line what scene = record scene { lines = scene.lines ++ (record { what = wh
 abbrev pub socket_end : PlainScene → NamedEnd → End
 socket_end scene end = record { side = end.side; s = socket_of scene.names end.name }
 
--- What a line of each word does to a scene. An event names its socket by number, and the bytes that
+-- What a line of each word makes of a scene. An event names its socket by number, and the bytes that
 -- it writes by where they lie in the payload.
 abbrev pub opens : List ℕ → PlainScene → PlainScene
 opens name scene = with_line (One (events.Open (socket_of scene.names name))) (with_name name scene)
@@ -90,6 +91,7 @@ with_sockets scene = record scene { setup = record scene.setup { sockets = max 1
 abbrev pub limit_passed : ℕ → ℕ → ℕ → Option ℕ
 limit_passed names lines bytes = if nat_lt MOST_NAMES names then Some MOST_NAMES else if nat_lt MOST_EVENT_LINES lines then Some MOST_EVENT_LINES else if nat_lt MOST_PAYLOAD_BYTES bytes then Some MOST_PAYLOAD_BYTES else None
 
+-- the value where no limit is passed
 abbrev pub unless_passed : {X : Type 0} → Option ℕ → X → Result X LineFault
 unless_passed None x = Ok x
 unless_passed (Some limit) x = Err (Passes limit)
@@ -111,11 +113,12 @@ pub record IsWithinLimits (scene : PlainScene) : Type 0 where
   pub lines : length scene.lines ≤ MOST_EVENT_LINES
   pub payload : length scene.payload ≤ MOST_PAYLOAD_BYTES
 
--- what a world takes at a line, where the payload has so many bytes
+-- what a world of this setup takes at a line, where the payload has so many bytes
 abbrev pub WhatFits : Setup → ℕ → SceneWhat → Type 0
 WhatFits setup bytes (One event) = Fits setup bytes event
 WhatFits setup bytes (Pump count) = (1 ≤ count) × (count ≤ MOST_PUMP_STEPS)
 
+-- the same of the line
 abbrev pub LineFits : Setup → ℕ → SceneLine → Type 0
 LineFits setup bytes line = WhatFits setup bytes line.what
 

@@ -32,16 +32,36 @@ Gives view (Err NoMemory) read = Unit {0}
 Gives view (Err (Bad kind)) read = read ≡ Err kind
 Gives view (Err (Passes limit)) read = ⊥
 
--- the words of a line stand between its spaces
+-- the bytes of the texts that have a meaning of their own
+abbrev pub space : ℕ
+space = 32
+
+abbrev pub star : ℕ
+star = 42
+
+abbrev pub comma : ℕ
+comma = 44
+
+abbrev pub point : ℕ
+point = 46
+
+abbrev pub underscore : ℕ
+underscore = 95
+
+-- the parts of a text between the bytes of one kind, one more than there are of these
+abbrev pub parts : ℕ → List ℕ → List (List ℕ)
+parts mark text = slice_split (λ b. b == mark) text
+
+-- the words of a line: the parts between its spaces that have a byte
 abbrev pub words_of : List ℕ → List (List ℕ)
-words_of line = filter (λ word. nat_lt 0 (length word)) (slice_split (λ b. b == 32) line)
+words_of line = filter (λ word. nat_lt 0 (length word)) (parts space line)
 
 -- the number that decimal digits spell behind those of n
 abbrev pub digits_from : ℕ → List ℕ → Result ℕ LineKind
 digits_from n [] = Ok n
 digits_from n (b ∷ bs) = if nat_lt (digit_value b) 10 then digits_from (n * 10 + digit_value b) bs else Err kinds.Number
 
--- a number: decimal digits, at least one
+-- a number: decimal digits, at least one and not too many
 abbrev pub number_of : List ℕ → Result ℕ LineKind
 number_of word = if (length word == 0) || nat_lt MOST_DIGITS (length word) then Err kinds.Number else digits_from 0 word
 
@@ -51,13 +71,14 @@ number_in least most word = number_of word >>= λ n. if nat_le least n && nat_le
 
 -- a byte that a name may have behind its first letter
 abbrev pub is_name_byte : ℕ → Bool
-is_name_byte b = is_ascii_lowercase b || (is_ascii_digit b || (b == 95))
+is_name_byte b = is_ascii_lowercase b || (is_ascii_digit b || (b == underscore))
 
--- a name: small letters, digits and underscores, first a letter
+-- whether a word is a name: small letters, digits and underscores, not too many, first a letter
 abbrev pub is_name : List ℕ → Bool
 is_name [] = false
 is_name (b ∷ bs) = is_ascii_lowercase b && (nat_lt (length bs) MOST_NAME_BYTES && list_all is_name_byte bs)
 
+-- a name
 abbrev pub name_of : List ℕ → Result (List ℕ) LineKind
 name_of word = if is_name word then Ok word else Err kinds.Name
 
@@ -74,11 +95,18 @@ pub record NamedEnd : Type 0 where
 abbrev pub named_end : LentEnd → NamedEnd
 named_end end = record { side = end.side; name = end.name.now }
 
+-- the end with this letter and name
+abbrev pub end_with : ℕ → List ℕ → Result NamedEnd LineKind
+end_with letter name = do
+  side ← side_of letter
+  name ← name_of name
+  Ok (record { side = side; name = name })
+
 -- an end: a side, a point and a name
 abbrev pub end_of : List ℕ → Result NamedEnd LineKind
 end_of [] = Err kinds.Side
 end_of (letter ∷ []) = Err kinds.Side
-end_of (letter ∷ point ∷ name) = if point == 46 then side_of letter >>= (λ side. name_of name >>= λ name. Ok (record { side = side; name = name })) else Err kinds.Side
+end_of (letter ∷ b ∷ name) = if b == point then end_with letter name else Err kinds.Side
 
 -- a byte in two hexadecimal digits, of either case
 abbrev pub byte_of : ℕ → ℕ → Result ℕ LineKind
@@ -92,23 +120,33 @@ at_least_once (Err kind) = Err kinds.Bytes
 abbrev pub times_of : List ℕ → Result ℕ LineKind
 times_of word = at_least_once (number_of word)
 
+-- a byte, and how often it comes
+abbrev pub run_with : ℕ → ℕ → List ℕ → Result Run LineKind
+run_with high low times = do
+  byte ← byte_of high low
+  count ← times_of times
+  Ok (record { byte = byte; count = count })
+
 -- an item: a byte, or a byte, a star and how often it comes
 abbrev pub run_of : List ℕ → Result Run LineKind
 run_of [] = Err kinds.Bytes
 run_of (high ∷ []) = Err kinds.Bytes
 run_of (high ∷ low ∷ []) = byte_of high low >>= λ byte. Ok (record { byte = byte; count = 1 })
-run_of (high ∷ low ∷ star ∷ times) = if star == 42 then byte_of high low >>= (λ byte. times_of times >>= λ count. Ok (record { byte = byte; count = count })) else Err kinds.Bytes
+run_of (high ∷ low ∷ b ∷ times) = if b == star then run_with high low times else Err kinds.Bytes
 
 -- the runs that items are, or the first fault
 abbrev pub runs_from : List (List ℕ) → Result (List Run) LineKind
 runs_from [] = Ok []
-runs_from (item ∷ items) = run_of item >>= λ run. runs_from items >>= λ runs. Ok (run ∷ runs)
+runs_from (item ∷ items) = do
+  run ← run_of item
+  runs ← runs_from items
+  Ok (run ∷ runs)
 
 -- bytes: items with commas between them, or a hyphen for none
 abbrev pub runs_of : List ℕ → Result (List Run) LineKind
-runs_of word = if bytes_eq word (codes "-") then Ok [] else runs_from (slice_split (λ b. b == 44) word)
+runs_of word = if bytes_eq word (codes "-") then Ok [] else runs_from (parts comma word)
 
--- the bytes of runs
+-- the bytes of a run, and of runs
 abbrev pub run_bytes : Run → List ℕ
 run_bytes run = replicate run.count run.byte
 

@@ -52,12 +52,7 @@ fn take_pump(scene: &mut Scene, count: &[u8]) -> Result<(), LineFault>
 }
 
 /// The line `write END BYTES`.
-fn take_write(
-    alloc: Global,
-    scene: &mut Scene,
-    end: &[u8],
-    bytes: &[u8],
-) -> Result<(), LineFault>
+fn take_write(alloc: Global, scene: &mut Scene, end: &[u8], bytes: &[u8]) -> Result<(), LineFault>
     requires { IsWithinLimits (plain scene.old) }
     ensures { Makes result (plain scene.new) (limited (row_of Command.Write (end.now ∷ bytes.now ∷ []) (plain scene.old))) }
 {
@@ -67,12 +62,7 @@ fn take_write(
 }
 
 /// The line `read END N`.
-fn take_read(
-    alloc: Global,
-    scene: &mut Scene,
-    end: &[u8],
-    len: &[u8],
-) -> Result<(), LineFault>
+fn take_read(alloc: Global, scene: &mut Scene, end: &[u8], len: &[u8]) -> Result<(), LineFault>
     requires { IsWithinLimits (plain scene.old) }
     ensures { Makes result (plain scene.new) (limited (row_of Command.Read (end.now ∷ len.now ∷ []) (plain scene.old))) }
 {
@@ -135,6 +125,7 @@ fn read_line(alloc: Global, scene: &mut Scene, line: &[u8]) -> Result<(), LineFa
     }
     let words = words_of(alloc, line)?;
     match words.as_slice() {
+        // Such a line has been passed over.
         [] => Err(LineFault::Bad(LineKind::Word)),
         [word, arguments @ ..] => {
             let command = command_of(word)?;
@@ -197,7 +188,10 @@ fn read_lines(alloc: Global, bytes: &[u8]) -> Result<Scene, SceneFault>
     Ok(scene)
 }
 
-/// Reads the scene that a text is.
+/// The scene that a text of fewer than 2^32 bytes is.
+///
+/// `BadLine` and `TooMany` tell the first line that is refused, counted from 1: for the first of its
+/// kinds, or, where it has none, for the first limit that the scene passes with it.
 pub fn read_scene(alloc: Global, bytes: &[u8]) -> Result<Scene, SceneFault>
     requires { length bytes.now < 2 ^ 32 }
     // It is the scene that the grammar gives, or the fault of the first line that is refused.

@@ -7,7 +7,7 @@
 
 mod faults;
 mod grammar;
-mod limits;
+pub mod limits;
 mod scenes;
 mod words;
 

@@ -28,25 +28,24 @@ pub struct SceneLine {
 }
 
 /// A scene: who meets whom, and what is done in which order.
-#[derive(Drop)]
+#[derive(Debug, Drop)]
 pub struct Scene {
+    /// The settings of both peers; there are as many sockets as names, but at least one.
     pub setup: Setup,
+    /// How much the history may hold.
     pub room: Room,
     /// The names of the sockets, by their numbers.
     pub names: IndexMap<String, ()>,
     /// The names of the actors from 1 on. Actor 0 is the scene's own.
     pub actors: Vec<String>,
+    /// What is done, in this order.
     pub lines: Vec<SceneLine>,
     /// The bytes of all writes, in their order.
     pub payload: Vec<u8>,
 }
 
 /// The number of a name, which goes last where it is new.
-fn mention(
-    alloc: Global,
-    names: &mut IndexMap<String, ()>,
-    name: &str,
-) -> Result<usize, AllocError>
+fn mention(alloc: Global, names: &mut IndexMap<String, ()>, name: &str) -> Result<usize, AllocError>
     ensures number { IfOk result (λ s. s ≡ socket_of (names_in names.old) name.now) }
     ensures names { OnOk result (names_in names.new ≡ mentioned (names_in names.old) name.now) }
 {
@@ -109,7 +108,7 @@ impl Scene {
         Ok(s as u32)
     }
 
-    /// That there are not too many names, and there may be another line.
+    /// Refuses too many names, and another line where there may be none.
     fn test_line(&self) -> Result<(), LineFault>
         requires { length (plain self.now).payload ≤ MOST_PAYLOAD_BYTES }
         ensures { result ≡ unless_passed (limit_passed (length (plain self.now).names) (length (plain self.now).lines + 1) (length (plain self.now).payload)) tt }

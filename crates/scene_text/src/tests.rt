@@ -82,30 +82,54 @@ fn refusals(rt: HostRuntime) -> Result<(), Fail> {
 
 #[test]
 fn scenes(rt: HostRuntime) -> Result<(), Fail> {
-    let a = End { side: Side::A, s: 0 };
-    let b = End { side: Side::B, s: 0 };
+    let a = End {
+        side: Side::A,
+        s: 0,
+    };
+    let b = End {
+        side: Side::B,
+        s: 0,
+    };
     let text = "open s\npump 9\nwrite A.s 68,69\r\npump 2\nread B.s 9\n";
     assert!(rt; text.len() < 100);
     let scene = read_scene(rt.alloc(), text.as_bytes())?;
     let whats = [
         SceneWhat::One(Event::Open(0)),
         SceneWhat::Pump(9),
-        SceneWhat::One(Event::Write { end: a, at: 0, len: 2 }),
+        SceneWhat::One(Event::Write {
+            end: a,
+            at: 0,
+            len: 2,
+        }),
         SceneWhat::Pump(2),
         SceneWhat::One(Event::Read { end: b, len: 9 }),
     ];
-    assert_eq!(rt; scene.lines.as_slice(), whats.map(|what| SceneLine { what }).as_slice());
+    assert_eq!(rt;
+        scene.lines.as_slice(),
+        whats.map(|what| SceneLine { what }).as_slice()
+    );
     assert_eq!(rt; scene.payload.as_slice(), b"hi".as_slice());
     assert_eq!(rt; scene.names.len(), 1);
     assert_eq!(rt; scene.names.get_index_of("s"), Some(0));
-    assert_eq!(rt; scene.setup, Setup { sockets: 1, ..Setup::default() });
+    assert_eq!(rt;
+        scene.setup,
+        Setup {
+            sockets: 1,
+            ..Setup::default()
+        }
+    );
 
     let text = "  write  B.a_1 61*3,AA \n#\nwrite A.a_1 -\nwrite A.a_1 00*00002";
     assert!(rt; text.len() < 100);
     let scene = read_scene(rt.alloc(), text.as_bytes())?;
     let writes = [(b, 0, 4), (a, 4, 0), (a, 4, 2)];
-    let lines = writes.map(|(end, at, len)| SceneLine { what: SceneWhat::One(Event::Write { end, at, len }) });
+    let lines = writes.map(|(end, at, len)| SceneLine {
+        what: SceneWhat::One(Event::Write { end, at, len }),
+    });
     assert_eq!(rt; scene.lines.as_slice(), lines.as_slice());
-    assert_eq!(rt; scene.payload.as_slice(), [0x61, 0x61, 0x61, 0xaa, 0, 0].as_slice());
+    assert_eq!(rt;
+        scene.payload.as_slice(),
+        [0x61, 0x61, 0x61, 0xaa, 0, 0].as_slice()
+    );
     Ok(())
 }

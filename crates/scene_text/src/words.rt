@@ -2,10 +2,9 @@
 //!
 //! Each shape is read by one function, which equals its definition.
 
-ghost use Rattle.std.specs.Prelude.{◌≡◌, ◌==◌, ◌<◌, ◌≤◌, ◌^◌, ◌∷◌, ◌++◌, [], IfOk, OnOk, MatchOption, map, length, position, filter, nat_lt};
-ghost use Rattle.std.specs.List.{slice_split, list_all};
-ghost use Rattle.std.specs.Result.{result_map_both};
-ghost use Rattle.scene_text.specs.Words.{map_ok, Gives, words_of, number_of, number_in, is_name_byte, is_name, name_of, side_of, named_end, end_of, byte_of, times_of, run_of, runs_of};
+ghost use Rattle.std.specs.Prelude.{◌≡◌, ◌==◌, ◌<◌, ◌≤◌, ◌^◌, ◌∷◌, ◌++◌, [], IfOk, OnOk, MatchOption, IfSome, map, length, position, filter, nat_lt};
+ghost use Rattle.std.specs.List.{list_all};
+ghost use Rattle.scene_text.specs.Words.{map_ok, Gives, parts, words_of, number_of, number_in, is_name_byte, is_name, name_of, side_of, named_end, end_of, byte_of, times_of, run_of, runs_of};
 
 use crate::faults::{LineFault, LineKind};
 use crate::limits::{MOST_DIGITS, MOST_NAME_BYTES};
@@ -23,9 +22,9 @@ fn place_of(bytes: &[u8], mark: u8) -> Option<usize>
 #[tactic(auto, using(crate::proofs::Cutting::whole_where_none, crate::proofs::Cutting::cut_at_first))]
 pub(crate) fn cut(bytes: &[u8], mark: u8) -> Option<(&[u8], &[u8])>
     ensures parts { MatchOption result
-        (slice_split (λ b. b == mark) bytes.now ≡ bytes.now ∷ [])
-        (λ halves. slice_split (λ b. b == mark) bytes.now ≡ halves.0.now ∷ slice_split (λ b. b == mark) halves.1.now) }
-    ensures shorter { MatchOption result Unit (λ halves. length halves.1.now < length bytes.now) }
+        (parts mark bytes.now ≡ bytes.now ∷ [])
+        (λ halves. parts mark bytes.now ≡ halves.0.now ∷ parts mark halves.1.now) }
+    ensures shorter { IfSome result (λ halves. length halves.1.now < length bytes.now) }
 {
     let at = place_of(bytes, mark)?;
     Some((&bytes[..at], &bytes[at + 1..]))

@@ -1,4 +1,4 @@
-use Rattle.std.proofs.Common.{◌≤◌, subst, sym, arith}
+use Rattle.std.proofs.Common.{subst, sym, arith}
 use Rattle.std.specs.Str.Lines.{lines}
 use Rattle.scene_text.specs.Scenes.{plain, empty_scene, IsSound}
 use Rattle.scene_text.proofs.Reading.{lines_within}
