@@ -83,7 +83,7 @@ run_answer input = scene_answer (scene_of input)
 abbrev pub due_answer : List (List ℕ) → List ℕ → Answer
 due_answer words input =
     if is_command words then
-      (if nat_lt MOST_INPUT_BYTES (length input) then record { status = statuses.TooLong; text = codes "too long\n" } else run_answer input)
+    (if nat_lt MOST_INPUT_BYTES (length input) then record { status = statuses.TooLong; text = codes "too long\n" } else run_answer input)
     else record { status = statuses.Usage; text = codes "usage: smcr run\n" }
 
 -- a status that comes where memory, source and sink serve

@@ -10,9 +10,8 @@ mod run;
 mod top;
 
 use byte_port::{ReaderSource, WriterSink};
-use std::env;
-use std::io;
 use std::process::ExitCode;
+use std::{env, io};
 use top::{Status, smcr};
 
 /// Runs the program with the real words, standard input and standard output. Words that are no text
@@ -45,3 +44,6 @@ fn serve(rt: &HostRuntime, words: &[&str]) -> Status {
 fn main(rt: HostRuntime) -> ExitCode {
     ExitCode::from(run_program(&rt) as u8)
 }
+
+#[cfg(test)]
+mod tests;

@@ -140,12 +140,7 @@ fn push_part(out: &mut Vec<u8>, bytes: &[u8], at: u32, len: u32) -> Result<(), A
 }
 
 /// Appends a word, a space and a call's end.
-fn push_call(
-    out: &mut Vec<u8>,
-    word: &str,
-    names: &[String],
-    end: End,
-) -> Result<(), AllocError>
+fn push_call(out: &mut Vec<u8>, word: &str, names: &[String], end: End) -> Result<(), AllocError>
     ensures { OnOk result (out.new.items ≡ out.old.items ++ (word.now ++ end_text (names_of names.now) end)) }
 {
     push_text(out, word)?;
@@ -274,12 +269,7 @@ fn push_actor(out: &mut Vec<u8>, actors: &[String], actor: u32) -> Result<(), Al
 }
 
 /// Appends the number of an entry and the name of its actor.
-fn push_who(
-    out: &mut Vec<u8>,
-    actors: &[String],
-    number: u64,
-    actor: u32,
-) -> Result<(), AllocError>
+fn push_who(out: &mut Vec<u8>, actors: &[String], number: u64, actor: u32) -> Result<(), AllocError>
     ensures { OnOk result (out.new.items ≡ out.old.items ++ who_text (names_of actors.now) number actor) }
 {
     push_number(out, number)?;
@@ -399,7 +389,10 @@ fn wrote_in_all(side: Side, s: u32, history: &[Entry]) -> u64
     requires { length history.now < 2 ^ 32 }
     ensures { result ≡ sum_by (wrote_at side s) history.now }
 {
-    history.iter().map(|entry| wrote(side, s, entry) as u64).sum()
+    history
+        .iter()
+        .map(|entry| wrote(side, s, entry) as u64)
+        .sum()
 }
 
 /// All bytes that the application read at an end.
@@ -407,16 +400,14 @@ fn read_in_all(side: Side, s: u32, history: &[Entry]) -> u64
     requires { length history.now < 2 ^ 32 }
     ensures { result ≡ sum_by (read_at side s) history.now }
 {
-    history.iter().map(|entry| read(side, s, entry) as u64).sum()
+    history
+        .iter()
+        .map(|entry| read(side, s, entry) as u64)
+        .sum()
 }
 
 /// Appends what an end wrote and read in all.
-fn push_sums(
-    out: &mut Vec<u8>,
-    history: &[Entry],
-    side: Side,
-    s: u32,
-) -> Result<(), AllocError>
+fn push_sums(out: &mut Vec<u8>, history: &[Entry], side: Side, s: u32) -> Result<(), AllocError>
     requires { length history.now < 2 ^ 32 }
     ensures { OnOk result (out.new.items ≡ out.old.items ++ sums_text history.now side s) }
 {
