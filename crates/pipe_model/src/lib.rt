@@ -5,10 +5,10 @@
 //! is a list of entries, numbered from 1.
 #![tactic(auto)]
 
-pub use smc_num::Side;
-
 ghost use Rattle.std.specs.Prelude.{◌≡◌};
 ghost use Rattle.pipe_model.specs.Settings.{default_setup, default_room};
+
+pub use smc_num::Side;
 
 /// One end of a socket: the socket's number, from 0 in the order of the first mention, at one side.
 #[derive(Clone, Copy, Debug, PartialEq, Eq)]

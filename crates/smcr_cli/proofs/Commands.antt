@@ -1,5 +1,5 @@
 -- Lists of words that are no command.
-use Rattle.std.proofs.Common.{◌≡◌, ◌∙◌, ℕ, ◌≤◌, Bool, true, false, if◌then◌else◌, List, [], ◌∷◌, length, refl, arith, codes, suc}
+use Rattle.std.proofs.Common.{◌≡◌, ℕ, ◌≤◌, Bool, true, false, if◌then◌else◌, List, [], ◌∷◌, length, refl, arith, codes}
 use Rattle.std.specs.Str.{bytes_eq}
 use Rattle.smcr_cli.specs.Top.{without_dashes, is_run, is_command}
 

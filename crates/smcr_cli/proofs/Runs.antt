@@ -1,12 +1,10 @@
 -- Runs, line by line and pump by pump.
-use Rattle.std.proofs.Common.{◌≡◌, ◌∙◌, ℕ, ◌+◌, ◌-◌, ◌<◌, ◌≤◌, List, [], ◌∷◌, refl, ap, sym, subst, arith, Option, Some, None, Result, Ok, Err, suc, drop, length, get_or}
+use Rattle.std.proofs.Common.{◌≡◌, ◌∙◌, ℕ, ◌+◌, ◌-◌, ◌<◌, refl, ap, sym, arith, Option, Some, None, Ok, Err, suc}
 use Rattle.pipe_model.specs.declared.Event.{Event}
 use Rattle.pipe_model.specs.declared.Reply.{Reply}
 use Rattle.pipe_model.specs.declared.StepFault.{StepFault}
-use Rattle.scene_text.specs.declared.scenes.SceneWhat.{SceneWhat}
-use Rattle.scene_text.specs.declared.scenes.SceneLine.{SceneLine}
-use Rattle.world_core.specs.Steps.{Seen, stepped, refusal, reply_to, answer_or, world_or, some_answer, answer_of_next, world_after_next, next_event, step_answer, after_step, pump_answer, after_pump}
-use Rattle.smcr_cli.specs.Runs.{Ran, ended, stopped, stop_of, pumped, pumps, run_what, unless_stopped, runs, SameScene}
+use Rattle.world_core.specs.Steps.{Seen, stepped, refusal, reply_to, answer_or, world_or, some_answer, answer_of_next, world_after_next, next_event, after_step, pump_answer, after_pump}
+use Rattle.smcr_cli.specs.Runs.{Ran, ended, stopped, pumped, pumps, SameScene}
 
 -- a refused step leaves the world as it was
 refused-or : (r : Option StepFault) (reply : Reply) (new old : Seen) (fault : StepFault) → some_answer (answer_or r reply) ≡ Err fault → world_or r new old ≡ old

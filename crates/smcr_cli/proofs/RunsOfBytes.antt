@@ -1,9 +1,9 @@
 -- The runs of bytes, as a printer comes by them from the left.
-use Rattle.std.proofs.Common.{◌≡◌, ◌∙◌, ℕ, ◌+◌, ◌<◌, ◌≤◌, ◌==◌, Bool, true, false, if◌then◌else◌, List, [], ◌∷◌, ◌++◌, length, drop, get_or, codes, refl, sym, ap, subst, arith, append_assoc, map}
+use Rattle.std.proofs.Common.{◌≡◌, ◌∙◌, ℕ, ◌+◌, ◌<◌, ◌==◌, Bool, true, false, if◌then◌else◌, List, [], ◌∷◌, ◌++◌, length, drop, get_or, codes, refl, sym, ap, arith, append_assoc}
 use Rattle.std.specs.List.{join_by, flat_map}
 use Rattle.std.proofs.lemmas.Bool.{eq-eqb, ne_eqb, cond-true, cond-false}
 use Rattle.std.proofs.lemmas.List.{drop_more}
-use Rattle.scene_text.specs.Spelling.{Run, run_with, runs, run_text, bytes_text}
+use Rattle.scene_text.specs.Spelling.{Run, run_with, runs, run_text}
 
 -- so many of one byte in front of runs
 abbrev pub add_run : ℕ → ℕ → List Run → List Run

@@ -1,7 +1,6 @@
 -- What running the lines of a scene comes to.
 -- A reader learns here that the history of a scene is a function of its lines.
 use Rattle.std.specs.Prelude.{◌≡◌, ℕ, zero, suc, List, [], ◌∷◌, Option, Some, None, Result, Ok, Err}
-use Rattle.pipe_model.specs.declared.Event.{Event}
 use Rattle.pipe_model.specs.declared.Reply.{Reply}
 use Rattle.pipe_model.specs.declared.StepFault.{StepFault}
 use Rattle.scene_text.specs.declared.scenes.SceneWhat.{SceneWhat}

@@ -12,7 +12,7 @@ use Rattle.scene_text.specs.declared.faults.SceneFault.{SceneFault}
 use Rattle.scene_text.specs.declared.faults.SceneFault.TheVariants as faults
 use Rattle.scene_text.specs.Scenes.{PlainScene}
 use Rattle.scene_text.specs.Grammar.{scene_of}
-use Rattle.scene_text.specs.HistoryText.{Printed, history_text}
+use Rattle.scene_text.specs.HistoryText.{history_text}
 use Rattle.smcr_cli.specs.declared.top.Status.{Status}
 use Rattle.smcr_cli.specs.declared.top.Status.TheVariants as statuses
 use Rattle.smcr_cli.specs.declared.top.TheConstants.{MOST_INPUT_BYTES}

@@ -1,7 +1,6 @@
-use Rattle.std.proofs.Common.{◌≡◌, ◌∙◌, sym, ap, subst, Ok, Err, Some}
+use Rattle.std.proofs.Common.{◌∙◌, sym, ap, subst, Ok}
 use Rattle.smcr_cli.specs.Runs.{SameScene}
 use Rattle.smcr_cli.proofs.Runs.{pumps-more, pumps-refused, scene-pump, scene-more}
-use Rattle.world_core.specs.Steps.{pump_answer, after_pump}
 use Rattle.smcr_cli.proofs.run.pump_up_to.Goals as goal
 
 pub returns-in-Err-clause-ran : goal.returns-in-Err-clause-ran
