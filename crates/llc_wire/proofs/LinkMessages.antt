@@ -6,7 +6,7 @@ use Rattle.field_cases.specs.Fields.{zeros}
 use Rattle.llc_wire.specs.declared.LlcMessage.TheVariants.{ConfirmLink, AddLink, DeleteLink, TestLink}
 use Rattle.llc_wire.specs.Frame.{is_set, flag}
 use Rattle.llc_wire.specs.ConfirmLink.{confirm_link_around, confirm_link_bytes, SpellsConfirmLink}
-use Rattle.llc_wire.specs.AddLink.{add_link_around, add_link_bytes, SpellsAddLink}
+use Rattle.llc_wire.specs.AddLink.{add_link_around, add_link_bytes, reason_where, SpellsAddLink}
 use Rattle.llc_wire.specs.DeleteLink.{delete_link_bytes, SpellsDeleteLink}
 use Rattle.llc_wire.specs.TestLink.{test_link_bytes, SpellsTestLink}
 use Rattle.llc_wire.specs.Llc.{llc_read}
@@ -37,11 +37,11 @@ pub confirm_link_written : (reply : Bool) (mac gid : List ℕ) (qp link user mos
 confirm_link_written reply mac gid qp link user most = record { second = 0; flags = flag reply 0x80; rest = zeros 9; reply_flag = is_set-flag reply; rest_length = refl; are = refl }
 
 -- ADD LINK
-reason_read : (rejected : Bool) (second reason : ℕ) → (rejected ≡ true → second % 16 ≡ reason) → (rejected ≡ false → reason ≡ 0) → flag rejected (second % 16) ≡ reason
+reason_read : (rejected : Bool) (second reason : ℕ) → (rejected ≡ true → second % 16 ≡ reason) → (rejected ≡ false → reason ≡ 0) → reason_where rejected (second % 16) ≡ reason
 reason_read true second reason has none = has refl
 reason_read false second reason has none = sym (none refl)
 
-reason_written : (rejected : Bool) (reason : ℕ) → reason < 16 → rejected ≡ true → flag rejected reason % 16 ≡ reason
+reason_written : (rejected : Bool) (reason : ℕ) → reason < 16 → rejected ≡ true → reason_where rejected reason % 16 ≡ reason
 reason_written true reason low e = omega arith
 reason_written false reason low e = cc
 
@@ -50,7 +50,7 @@ pub add_link_read : (bytes : List ℕ) (reply rejected : Bool) (reason : ℕ) (m
 add_link_read bytes reply rejected reason mac gid qp link mtu psn six sixteen q p none s =
     let tail = big_bytes 3 qp ++ (link ∷ s.mtu_byte ∷ (big_bytes 3 psn ++ s.rest)) in
     let right : add_link_around s.second s.flags s.two s.mtu_byte s.rest mac gid qp link psn ≡ 2 ∷ 44 ∷ s.second ∷ s.flags ∷ (mac ++ (s.two ++ (gid ++ tail))) = simp append_assoc in
-    let reason_at : flag (is_set 0x40 s.flags) (s.second % 16) ≡ reason = ap (λ b. flag b (s.second % 16)) s.rejected_flag ∙ reason_read rejected s.second reason s.reason_bits none in
+    let reason_at : reason_where (is_set 0x40 s.flags) (s.second % 16) ≡ reason = ap (λ b. reason_where b (s.second % 16)) s.rejected_flag ∙ reason_read rejected s.second reason s.reason_bits none in
     let gid_at : take 16 (drop 8 (mac ++ (s.two ++ (gid ++ tail)))) ≡ gid =
     ap (λ xs. take 16 xs) (drop-run 6 2 mac (s.two ++ (gid ++ tail)) six ∙ drop-run 2 0 s.two (gid ++ tail) s.two_length) ∙ take-run 16 gid tail sixteen in
     let qp_at : big_number 3 (drop 24 (mac ++ (s.two ++ (gid ++ tail)))) ≡ qp =
@@ -67,7 +67,7 @@ add_link_read bytes reply rejected reason mac gid qp link mtu psn six sixteen q 
 pub add_link_written : (reply rejected : Bool) (reason : ℕ) (mac gid : List ℕ) (qp link mtu psn : ℕ) → reason < 16 → mtu < 16
     → SpellsAddLink (add_link_bytes reply rejected reason mac gid qp link mtu psn) reply rejected reason mac gid qp link mtu psn
 add_link_written reply rejected reason mac gid qp link mtu psn low lower = record {
-  second = flag rejected reason;
+  second = reason_where rejected reason;
   flags = flag reply 0x80 + flag rejected 0x40;
   two = zeros 2;
   mtu_byte = mtu;

@@ -1,7 +1,7 @@
 //! ADD LINK: the server offers a new link, and the client accepts or rejects it.
 
 ghost use Rattle.std.specs.Prelude.{◌≡◌, ◌<◌, ◌^◌};
-ghost use Rattle.llc_wire.specs.AddLink.{add_link_bytes, add_link_at};
+ghost use Rattle.llc_wire.specs.AddLink.{add_link_bytes, add_link_at, reason_where};
 
 use crate::{LlcMessage, frame};
 use arrayvec::ArrayVec;
@@ -29,7 +29,7 @@ pub(crate) fn write(
 {
     let mut out: ArrayVec<u8, 44> = ArrayVec::new();
     let flags = frame::flag(reply, frame::REPLY) + frame::flag(rejected, REJECTED);
-    put!(&mut out; u8 TYPE, u8 frame::LENGTH, u8 frame::flag(rejected, reason), u8 flags);
+    put!(&mut out; u8 TYPE, u8 frame::LENGTH, u8 reason_where(rejected, reason), u8 flags);
     put!(&mut out; bytes mac, u16 0, bytes gid, u24 qp, u8 link, u8 mtu, u24 psn, bytes &[0; 8]);
     frame::whole(out)
 }
@@ -41,7 +41,7 @@ pub(crate) fn read(bytes: &[u8; 44]) -> LlcMessage
     LlcMessage::AddLink {
         reply: frame::has(bytes[3], frame::REPLY),
         rejected,
-        reason: frame::flag(rejected, bytes[2] % 16),
+        reason: reason_where(rejected, bytes[2] % 16),
         mac: frame::mac_at(bytes, 4),
         gid: frame::gid_at(bytes, 12),
         qp: get!(bytes; u24 at 28),
@@ -49,4 +49,11 @@ pub(crate) fn read(bytes: &[u8; 44]) -> LlcMessage
         mtu: bytes[32] % 16,
         psn: get!(bytes; u24 at 33),
     }
+}
+
+// The reason where the offer is rejected, and else none.
+fn reason_where(rejected: bool, reason: u8) -> u8
+    ensures { result ≡ reason_where rejected reason }
+{
+    if rejected { reason } else { 0 }
 }
