@@ -50,7 +50,8 @@ whole : (rows : List Row) (states messages : ℕ) → all_below states (λ s. al
 whole rows states messages e s m known_state known_message =
     passes_below messages (λ m. has_row rows s m) (passes_below states (λ s. all_below messages (λ m. has_row rows s m)) e s known_state) m known_message
 
--- a table that passes the test is sound
+-- a table that passes the test is sound; so behind `match TABLE.check()` the arm `Err(_) => unreachable!()`
+-- has the answer `unreachable-requires c = true≢false (sym (c.in-Err.ensures.sound.1 (tested_is_sound _ _ _ refl)))`
 pub tested_is_sound : (rows : List Row) (states messages : ℕ) → is_sound rows states messages ≡ true → IsSound rows states messages
 tested_is_sound rows states messages e =
     let parts = both (has_no_twin rows) _ e in (no_twin rows parts.0, whole rows states messages parts.1)

@@ -99,8 +99,8 @@ fn first_gap(rows: &[Row], states: u8, messages: u8) -> Option<(u8, u8)>
 impl<const N: usize> Cases<N> {
     /// The table, where each case has exactly one row. A fault is the first pair of rows of one
     /// case, by the first row and then by the second; where there is none, the first case without
-    /// a row, by state and then by message. A row outside the states and messages is passed over,
-    /// but is no twin of another either.
+    /// a row, by state and then by message. A row outside the states and messages stands for no
+    /// case, and is at fault only if it has a twin.
     pub fn check(&self) -> Result<Sound<N>, RowFault>
         ensures sound { IsOk result ↔ IsSound self.now.rows self.now.states self.now.messages }
         ensures same { IfOk result (λ table. table.cases ≡ self.now) }

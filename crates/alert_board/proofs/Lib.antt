@@ -1,0 +1,3 @@
+pub mod Logs
+pub mod Moves
+pub mod Numbers

@@ -1,0 +1,4 @@
+pub mod Alerts
+pub mod Word
+pub mod Known
+pub mod Rule

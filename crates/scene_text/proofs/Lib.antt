@@ -1,0 +1,7 @@
+pub mod Cutting
+pub mod Numbers
+pub mod Names
+pub mod Runs
+pub mod Mentions
+pub mod Reading
+pub mod Sound

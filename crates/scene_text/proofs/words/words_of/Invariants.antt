@@ -1,0 +1,10 @@
+use Rattle.std.proofs.Common.{◌≡◌, ◌++◌, length, map}
+use Rattle.scene_text.specs.Words.{words_of}
+use Rattle.scene_text.proofs.words.words_of.Given as goal
+
+-- the words so far and those of the rest are those of the line
+abbrev pub invariant-loop-word : goal.invariant-loop-word
+invariant-loop-word l = map (λ w. w.now) l.words.items ++ words_of l.rest ≡ words_of l.fn.line
+
+abbrev pub decreases-loop-word : goal.decreases-loop-word
+decreases-loop-word l = length l.rest

@@ -1,0 +1,205 @@
+//! The grammar of scenes: what the lines of a text say.
+
+ghost use Rattle.std.specs.Prelude.{◌≡◌, ◌==◌, ◌<◌, ◌^◌, [], ◌∷◌, length, map, OnOk, IfOk, IfErr, Ok};
+ghost use Rattle.std.specs.List.{list_all};
+ghost use Rattle.std.specs.Str.Lines.{strip_carriage_return, lines};
+ghost use Rattle.scene_text.specs.Scenes.{plain, empty_scene, Makes, IsWithinLimits, IsSound};
+ghost use Rattle.scene_text.specs.Grammar.{command_of, row_of, is_printable, is_passed_over, limited, after_line, fault_at, at_line, after_lines, scene_of, IsFault, IsRead};
+
+use crate::faults::{LineFault, LineKind, SceneFault};
+use crate::limits::{MOST_PUMP_STEPS, MOST_READ_BYTES};
+use crate::scenes::Scene;
+use crate::words::{cut, end_of, name_of, number_in, runs_of, words_of};
+use std::alloc::Global;
+
+/// What the first word of a line stands for.
+#[derive(Clone, Copy, Debug, PartialEq, Eq)]
+enum Command {
+    Open,
+    Pump,
+    Write,
+    Read,
+}
+
+fn command_of(word: &[u8]) -> Result<Command, LineKind>
+    ensures { result ≡ command_of word.now }
+{
+    match word {
+        b"open" => Ok(Command::Open),
+        b"pump" => Ok(Command::Pump),
+        b"write" => Ok(Command::Write),
+        b"read" => Ok(Command::Read),
+        _ => Err(LineKind::Word),
+    }
+}
+
+/// The line `open NAME`.
+fn take_open(alloc: Global, scene: &mut Scene, name: &[u8]) -> Result<(), LineFault>
+    requires { IsWithinLimits (plain scene.old) }
+    ensures { Makes result (plain scene.new) (limited (row_of Command.Open (name.now ∷ []) (plain scene.old))) }
+{
+    let name = name_of(name)?;
+    scene.open(alloc, name)
+}
+
+/// The line `pump N`.
+fn take_pump(scene: &mut Scene, count: &[u8]) -> Result<(), LineFault>
+    requires { IsWithinLimits (plain scene.old) }
+    ensures { Makes result (plain scene.new) (limited (row_of Command.Pump (count.now ∷ []) (plain scene.old))) }
+{
+    let count = number_in(count, 1, MOST_PUMP_STEPS)?;
+    scene.pump(count)
+}
+
+/// The line `write END BYTES`.
+fn take_write(alloc: Global, scene: &mut Scene, end: &[u8], bytes: &[u8]) -> Result<(), LineFault>
+    requires { IsWithinLimits (plain scene.old) }
+    ensures { Makes result (plain scene.new) (limited (row_of Command.Write (end.now ∷ bytes.now ∷ []) (plain scene.old))) }
+{
+    let end = end_of(end)?;
+    let runs = runs_of(alloc, bytes)?;
+    scene.write(alloc, end, &runs)
+}
+
+/// The line `read END N`.
+fn take_read(alloc: Global, scene: &mut Scene, end: &[u8], len: &[u8]) -> Result<(), LineFault>
+    requires { IsWithinLimits (plain scene.old) }
+    ensures { Makes result (plain scene.new) (limited (row_of Command.Read (end.now ∷ len.now ∷ []) (plain scene.old))) }
+{
+    let end = end_of(end)?;
+    let len = number_in(len, 0, MOST_READ_BYTES)?;
+    scene.read(alloc, end, len)
+}
+
+/// Does to a scene what a line says.
+fn take(
+    alloc: Global,
+    scene: &mut Scene,
+    command: Command,
+    arguments: &[&[u8]],
+) -> Result<(), LineFault>
+    requires { IsWithinLimits (plain scene.old) }
+    ensures { Makes result (plain scene.new) (limited (row_of command (map (λ w. w.now) arguments.now) (plain scene.old))) }
+{
+    match (command, arguments) {
+        (Command::Open, [name]) => take_open(alloc, scene, name),
+        (Command::Pump, [count]) => take_pump(scene, count),
+        (Command::Write, [end, bytes]) => take_write(alloc, scene, end, bytes),
+        (Command::Read, [end, len]) => take_read(alloc, scene, end, len),
+        _ => Err(LineFault::Bad(LineKind::Count)),
+    }
+}
+
+fn are_spaces(line: &[u8]) -> bool
+    ensures { result ≡ list_all (λ b. b == 32) line.now }
+{
+    line.iter().all(|byte| *byte == b' ')
+}
+
+/// Whether a line says nothing.
+fn is_passed_over(line: &[u8]) -> bool
+    ensures { result ≡ is_passed_over line.now }
+{
+    match line {
+        [] | [b'#', ..] => true,
+        _ => are_spaces(line),
+    }
+}
+
+fn are_printable(line: &[u8]) -> bool
+    ensures { result ≡ list_all is_printable line.now }
+{
+    line.iter().all(|byte| b' ' <= *byte && *byte <= b'~')
+}
+
+/// Reads one line.
+fn read_line(alloc: Global, scene: &mut Scene, line: &[u8]) -> Result<(), LineFault>
+    requires { IsWithinLimits (plain scene.old) }
+    ensures { Makes result (plain scene.new) (after_line line.now (plain scene.old)) }
+{
+    if is_passed_over(line) {
+        return Ok(());
+    }
+    if !are_printable(line) {
+        return Err(LineFault::Bad(LineKind::Char));
+    }
+    let words = words_of(alloc, line)?;
+    match words.as_slice() {
+        // Such a line has been passed over.
+        [] => Err(LineFault::Bad(LineKind::Word)),
+        [word, arguments @ ..] => {
+            let command = command_of(word)?;
+            take(alloc, scene, command, arguments)
+        }
+    }
+}
+
+/// What a fault is in the line with this number.
+fn fault_at(line: u32, fault: LineFault) -> SceneFault
+    ensures { result ≡ fault_at line fault }
+{
+    match fault {
+        LineFault::NoMemory => SceneFault::NoMemory,
+        LineFault::Bad(kind) => SceneFault::BadLine { line, kind },
+        LineFault::Passes { limit } => SceneFault::TooMany { line, limit },
+    }
+}
+
+/// A line that ends at a line feed, without the carriage return before that.
+fn without_return(line: &[u8]) -> &[u8]
+    ensures { result.now ≡ strip_carriage_return line.now }
+{
+    match line {
+        [text @ .., b'\r'] => text,
+        _ => line,
+    }
+}
+
+/// Reads the line with this number.
+fn read_line_at(
+    alloc: Global,
+    scene: &mut Scene,
+    number: u32,
+    line: &[u8],
+) -> Result<(), SceneFault>
+    requires { IsWithinLimits (plain scene.old) }
+    ensures ok { OnOk result (at_line number (after_line line.now (plain scene.old)) ≡ Ok (plain scene.new)) }
+    ensures err { IfErr result (λ fault. IsFault fault (at_line number (after_line line.now (plain scene.old)))) }
+{
+    read_line(alloc, scene, line).map_err(|fault| fault_at(number, fault))
+}
+
+/// Reads the lines of a text.
+fn read_lines(alloc: Global, bytes: &[u8]) -> Result<Scene, SceneFault>
+    requires { length bytes.now < 2 ^ 32 }
+    ensures { IsRead result (after_lines 1 (lines bytes.now) empty_scene) }
+{
+    let mut scene = Scene::empty(alloc);
+    let mut number = 0u32;
+    let mut rest = bytes;
+    while let Some((line, after)) = cut(rest, b'\n') {
+        number += 1;
+        read_line_at(alloc, &mut scene, number, without_return(line))?;
+        rest = after;
+    }
+    if !rest.is_empty() {
+        read_line_at(alloc, &mut scene, number + 1, rest)?;
+    }
+    Ok(scene)
+}
+
+/// The scene that a text of fewer than 2^32 bytes is.
+///
+/// `BadLine` and `TooMany` tell the first line that is refused, counted from 1: for the first of its
+/// kinds, or, where it has none, for the first limit that the scene passes with it.
+pub fn read_scene(alloc: Global, bytes: &[u8]) -> Result<Scene, SceneFault>
+    requires { length bytes.now < 2 ^ 32 }
+    // It is the scene that the grammar gives, or the fault of the first line that is refused.
+    ensures exact { IsRead result (scene_of bytes.now) }
+
+    ensures sound { IfOk result (λ scene. IsSound (plain scene)) }
+{
+    let mut scene = read_lines(alloc, bytes)?;
+    scene.count_sockets();
+    Ok(scene)
+}

@@ -1,0 +1,19 @@
+//! The texts of this project: scenes, which are read, and histories, which are printed.
+//!
+//! A scene is a text of lines; what it means, and which line is refused for what, stands as a
+//! function on bytes in `specs/`, and [`read_scene`] equals it. The text of a history stands there
+//! too, and the program's printer equals that.
+#![tactic(auto)]
+
+mod faults;
+mod grammar;
+pub mod limits;
+mod scenes;
+mod words;
+
+pub use faults::{LineKind, SceneFault};
+pub use grammar::read_scene;
+pub use scenes::{Scene, SceneLine, SceneWhat};
+
+#[cfg(test)]
+mod tests;

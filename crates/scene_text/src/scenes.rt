@@ -1,0 +1,201 @@
+//! Scenes, and what a line adds to them.
+
+ghost use Rattle.std.specs.Prelude.{◌≡◌, ◌≤◌, ◌+◌, ◌++◌, length, map, IfOk, IfErr, OnOk, Some, None, nat_le, if◌then◌else◌};
+ghost use Rattle.scene_text.specs.declared.faults.LineFault.TheVariants.{NoMemory as NoRoom};
+ghost use Rattle.scene_text.specs.Words.{named_end, bytes_in};
+ghost use Rattle.scene_text.specs.Scenes.{plain, names_in, empty_scene, socket_of, mentioned, with_name, with_line, opens, pumps, writes, reads, with_sockets, limit_passed, unless_passed, within_limits, Makes, IsWithinLimits};
+
+use crate::faults::LineFault;
+use crate::limits::{MOST_EVENT_LINES, MOST_NAMES, MOST_PAYLOAD_BYTES};
+use crate::words::{NamedEnd, Run};
+use indexmap::IndexMap;
+use pipe_model::{End, Event, Room, Setup};
+use std::alloc::{AllocError, Global};
+
+/// What is done at a line of a scene.
+#[derive(Clone, Copy, Debug, PartialEq, Eq)]
+pub enum SceneWhat {
+    /// This event happens.
+    One(Event),
+    /// At most so many steps are made of what is due.
+    Pump(u32),
+}
+
+/// A line of a scene at which something is done.
+#[derive(Clone, Copy, Debug, PartialEq, Eq)]
+pub struct SceneLine {
+    pub what: SceneWhat,
+}
+
+/// A scene: who meets whom, and what is done in which order.
+#[derive(Debug, Drop)]
+pub struct Scene {
+    /// The settings of both peers; there are as many sockets as names, but at least one.
+    pub setup: Setup,
+    /// How much the history may hold.
+    pub room: Room,
+    /// The names of the sockets, by their numbers.
+    pub names: IndexMap<String, ()>,
+    /// The names of the actors from 1 on. Actor 0 is the scene's own.
+    pub actors: Vec<String>,
+    /// What is done, in this order.
+    pub lines: Vec<SceneLine>,
+    /// The bytes of all writes, in their order.
+    pub payload: Vec<u8>,
+}
+
+/// The number of a name, which goes last where it is new.
+fn mention(alloc: Global, names: &mut IndexMap<String, ()>, name: &str) -> Result<usize, AllocError>
+    ensures number { IfOk result (λ s. s ≡ socket_of (names_in names.old) name.now) }
+    ensures names { OnOk result (names_in names.new ≡ mentioned (names_in names.old) name.now) }
+{
+    if let Some(s) = names.get_index_of(name) {
+        return Ok(s);
+    }
+    let s = names.len();
+    let key = String::from_str(alloc, name)?;
+    names.insert(key, ())?;
+    Ok(s)
+}
+
+/// How many bytes runs are, if they are at most `most`.
+fn count_of(runs: &[Run], most: u32) -> Option<u32>
+    ensures { result ≡ (if nat_le (length (bytes_in runs.now)) most then Some (length (bytes_in runs.now)) else None) }
+{
+    let mut count = 0u32;
+    for run in runs {
+        if run.count > most - count {
+            return None;
+        }
+        count += run.count;
+    }
+    Some(count)
+}
+
+/// Appends the bytes of runs.
+fn push_runs(bytes: &mut Vec<u8>, runs: &[Run]) -> Result<(), AllocError>
+    ensures { OnOk result (bytes.new.items ≡ bytes.old.items ++ bytes_in runs.now) }
+{
+    for run in runs {
+        bytes.resize(bytes.len() + run.count as usize, run.byte)?;
+    }
+    Ok(())
+}
+
+impl Scene {
+    /// A scene without lines.
+    pub(crate) fn empty(alloc: Global) -> Scene
+        ensures { plain result ≡ empty_scene }
+    {
+        Scene {
+            setup: Setup::default(),
+            room: Room::default(),
+            names: IndexMap::new(alloc),
+            actors: Vec::new(alloc),
+            lines: Vec::new(alloc),
+            payload: Vec::new(alloc),
+        }
+    }
+
+    /// The number of a name, which is mentioned now.
+    #[tactic(auto, using(crate::proofs::Mentions::socket_within))]
+    fn socket(&mut self, alloc: Global, name: &str) -> Result<u32, AllocError>
+        requires { IsWithinLimits (plain self.old) }
+        ensures number { IfOk result (λ s. s ≡ socket_of (plain self.old).names name.now) }
+        ensures named { OnOk result (plain self.new ≡ with_name name.now (plain self.old)) }
+    {
+        let s = mention(alloc, &mut self.names, name)?;
+        Ok(s as u32)
+    }
+
+    /// Refuses too many names, and another line where there may be none.
+    fn test_line(&self) -> Result<(), LineFault>
+        requires { length (plain self.now).payload ≤ MOST_PAYLOAD_BYTES }
+        ensures { result ≡ unless_passed (limit_passed (length (plain self.now).names) (length (plain self.now).lines + 1) (length (plain self.now).payload)) tt }
+    {
+        if self.names.len() > MOST_NAMES as usize {
+            return Err(LineFault::Passes { limit: MOST_NAMES });
+        }
+        if self.lines.len() >= MOST_EVENT_LINES as usize {
+            return Err(LineFault::Passes {
+                limit: MOST_EVENT_LINES,
+            });
+        }
+        Ok(())
+    }
+
+    /// Adds a line.
+    fn add(&mut self, what: SceneWhat) -> Result<(), LineFault>
+        requires { length (plain self.old).payload ≤ MOST_PAYLOAD_BYTES }
+        ensures { Makes result (plain self.new) (within_limits (with_line what (plain self.old))) }
+    {
+        self.test_line()?;
+        self.lines.push(SceneLine { what })?;
+        Ok(())
+    }
+
+    /// The line `open NAME`.
+    pub(crate) fn open(&mut self, alloc: Global, name: &str) -> Result<(), LineFault>
+        requires { IsWithinLimits (plain self.old) }
+        ensures { Makes result (plain self.new) (within_limits (opens name.now (plain self.old))) }
+    {
+        let s = self.socket(alloc, name)?;
+        self.add(SceneWhat::One(Event::Open(s)))
+    }
+
+    /// The line `pump N`.
+    pub(crate) fn pump(&mut self, count: u32) -> Result<(), LineFault>
+        requires { IsWithinLimits (plain self.old) }
+        ensures { Makes result (plain self.new) (within_limits (pumps count (plain self.old))) }
+    {
+        self.add(SceneWhat::Pump(count))
+    }
+
+    /// The line `write END BYTES`.
+    pub(crate) fn write(
+        &mut self,
+        alloc: Global,
+        end: NamedEnd<'_>,
+        runs: &[Run],
+    ) -> Result<(), LineFault>
+        requires { IsWithinLimits (plain self.old) }
+        ensures { Makes result (plain self.new) (within_limits (writes (named_end end.entry) (bytes_in runs.now) (plain self.old))) }
+    {
+        let s = self.socket(alloc, end.name)?;
+        self.test_line()?;
+        let at = self.payload.len() as u32;
+        let Some(len) = count_of(runs, MOST_PAYLOAD_BYTES - at) else {
+            return Err(LineFault::Passes {
+                limit: MOST_PAYLOAD_BYTES,
+            });
+        };
+        push_runs(&mut self.payload, runs)?;
+        let end = End { side: end.side, s };
+        let what = SceneWhat::One(Event::Write { end, at, len });
+        self.lines.push(SceneLine { what })?;
+        Ok(())
+    }
+
+    /// The line `read END N`.
+    pub(crate) fn read(
+        &mut self,
+        alloc: Global,
+        end: NamedEnd<'_>,
+        len: u32,
+    ) -> Result<(), LineFault>
+        requires { IsWithinLimits (plain self.old) }
+        ensures { Makes result (plain self.new) (within_limits (reads (named_end end.entry) len (plain self.old))) }
+    {
+        let s = self.socket(alloc, end.name)?;
+        let end = End { side: end.side, s };
+        self.add(SceneWhat::One(Event::Read { end, len }))
+    }
+
+    /// Sets the number of sockets: as many as there are names, but at least one.
+    pub(crate) fn count_sockets(&mut self)
+        requires { IsWithinLimits (plain self.old) }
+        ensures { plain self.new ≡ with_sockets (plain self.old) }
+    {
+        self.setup.sockets = (self.names.len() as u32).max(1);
+    }
+}

@@ -1,0 +1,4 @@
+pub mod RunsOfBytes
+pub mod Runs
+pub mod Commands
+pub mod Inputs

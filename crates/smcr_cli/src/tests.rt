@@ -1,0 +1,175 @@
+//! The top call over memory: worked scenes, refusals, and faults of the outside.
+use crate::top::{Status, smcr};
+use byte_port::{MemorySink, MemorySource};
+use std::test::Fail;
+
+/// Words and an input, with what they are answered and the text that goes with it.
+struct Case {
+    words: &'static [&'static str],
+    input: &'static [u8],
+    status: Status,
+    text: &'static [u8],
+}
+
+const USAGE: &[u8] = b"usage: smcr run\n";
+
+const CASES: [Case; 18] = [
+    Case {
+        words: &["run"],
+        input: b"",
+        status: Status::Ok,
+        text: b"ok 0\n",
+    },
+    Case {
+        words: &["go"],
+        input: b"",
+        status: Status::Usage,
+        text: USAGE,
+    },
+    Case {
+        words: &[],
+        input: b"",
+        status: Status::Usage,
+        text: USAGE,
+    },
+    Case {
+        words: &["run", "1"],
+        input: b"",
+        status: Status::Usage,
+        text: USAGE,
+    },
+    Case {
+        words: &["run", "--", "--"],
+        input: b"",
+        status: Status::Usage,
+        text: USAGE,
+    },
+    Case {
+        words: &["run", "--"],
+        input: b"",
+        status: Status::Ok,
+        text: b"ok 0\n",
+    },
+    Case {
+        words: &["run"],
+        input: b"open s\npump 9\nwrite A.s 68,69\npump 2\nread B.s 9\n",
+        status: Status::Ok,
+        text: b"1 main open s: opened\n2 main write A.s 68,69: wrote 2\n3 main deliver 1 A: landed 2.1\n4 main deliver 1 A: landed 2.2\n5 main read B.s 9: data 68,69\nsocket s A wrote 2 read 0 B wrote 0 read 2\nok 5\n",
+    },
+    Case {
+        words: &["run"],
+        input: b"open s\nopen t\n",
+        status: Status::Refused,
+        text: b"line 2: too many\n",
+    },
+    Case {
+        words: &["run"],
+        input: b"write A.s 6\n",
+        status: Status::Refused,
+        text: b"line 1: bytes\n",
+    },
+    Case {
+        words: &["run"],
+        input: b"open s\n\topen s\n",
+        status: Status::Refused,
+        text: b"line 2: char\n",
+    },
+    Case {
+        words: &["run"],
+        input: b"# a comment\ngrow\n",
+        status: Status::Refused,
+        text: b"line 2: word\n",
+    },
+    Case {
+        words: &["run"],
+        input: b"open\n",
+        status: Status::Refused,
+        text: b"line 1: count\n",
+    },
+    Case {
+        words: &["run"],
+        input: b"open S\n",
+        status: Status::Refused,
+        text: b"line 1: name\n",
+    },
+    Case {
+        words: &["run"],
+        input: b"read X.s 1\n",
+        status: Status::Refused,
+        text: b"line 1: side\n",
+    },
+    Case {
+        words: &["run"],
+        input: b"pump x\n",
+        status: Status::Refused,
+        text: b"line 1: number\n",
+    },
+    Case {
+        words: &["run"],
+        input: b"pump 10\n",
+        status: Status::Refused,
+        text: b"line 1: range\n",
+    },
+    Case {
+        words: &["run"],
+        input: b"read A.s 1\n",
+        status: Status::Ok,
+        text: b"1 main read A.s 1: no socket\nok 1\n",
+    },
+    Case {
+        words: &["run"],
+        input: b"open s\nread A.s 0\nread A.s 1\nopen s",
+        status: Status::Ok,
+        text: b"1 main open s: opened\n2 main read A.s 0: data -\n3 main read A.s 1: empty\n4 main open s: name used\nsocket s A wrote 0 read 0 B wrote 0 read 0\nok 4\n",
+    },
+];
+
+/// Every case, over memory that tells all and never fails.
+#[test]
+fn words_and_inputs_are_answered(rt: HostRuntime) -> Result<(), Fail> {
+    for case in &CASES {
+        let input = Vec::from_slice(rt.alloc(), case.input)?;
+        let mut source = MemorySource::new(input, Vec::new(rt.alloc()));
+        let Ok(mut sink) = MemorySink::new(rt.alloc(), 1_000, Vec::new(rt.alloc())) else {
+            return Err(Fail::new("no memory"));
+        };
+        let status = smcr(rt.alloc(), case.words, &mut source, &mut sink);
+        assert_eq!(rt; status, case.status);
+        assert!(rt; sink.held() == case.text);
+    }
+    Ok(())
+}
+
+/// A first read that fails, a first write that fails, and an input that is one byte too long.
+#[test]
+fn faults_of_the_outside_have_their_statuses(rt: HostRuntime) -> Result<(), Fail> {
+    let mut first = Vec::new(rt.alloc());
+    first.push(1)?;
+    let mut source = MemorySource::new(Vec::new(rt.alloc()), first);
+    let Ok(mut sink) = MemorySink::new(rt.alloc(), 1_000, Vec::new(rt.alloc())) else {
+        return Err(Fail::new("no memory"));
+    };
+    let status = smcr(rt.alloc(), &["run"], &mut source, &mut sink);
+    assert_eq!(rt; status, Status::ReadFault);
+    assert!(rt; sink.held().is_empty());
+
+    let mut first = Vec::new(rt.alloc());
+    first.push(1)?;
+    let mut source = MemorySource::new(Vec::new(rt.alloc()), Vec::new(rt.alloc()));
+    let Ok(mut sink) = MemorySink::new(rt.alloc(), 1_000, first) else {
+        return Err(Fail::new("no memory"));
+    };
+    let status = smcr(rt.alloc(), &["run"], &mut source, &mut sink);
+    assert_eq!(rt; status, Status::WriteFault);
+
+    let mut long = Vec::new(rt.alloc());
+    long.resize(1_048_577, b' ')?;
+    let mut source = MemorySource::new(long, Vec::new(rt.alloc()));
+    let Ok(mut sink) = MemorySink::new(rt.alloc(), 1_000, Vec::new(rt.alloc())) else {
+        return Err(Fail::new("no memory"));
+    };
+    let status = smcr(rt.alloc(), &["run"], &mut source, &mut sink);
+    assert_eq!(rt; status, Status::TooLong);
+    assert!(rt; sink.held() == b"too long\n".as_slice());
+    Ok(())
+}

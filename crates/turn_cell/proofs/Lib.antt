@@ -1,0 +1,10 @@
+pub mod PlaceLemmas
+pub mod ListLemmas
+pub mod TurnWords
+pub mod Standings
+pub mod TakeStep
+pub mod RaiseStep
+pub mod GiveStep
+pub mod SeatSteps
+pub mod Ends
+pub mod Joining

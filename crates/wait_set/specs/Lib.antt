@@ -1,0 +1,4 @@
+pub mod Ready
+pub mod Waiting
+pub mod Picks
+pub mod Search
