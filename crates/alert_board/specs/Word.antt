@@ -3,6 +3,7 @@ use Rattle.std.specs.Prelude.{ℕ, ◌+◌, ◌*◌, Bool, true, false}
 use Rattle.alert_board.specs.declared.flags.Alert.{Alert}
 use Rattle.alert_board.specs.declared.flags.News.{News}
 
+-- a flag as a bit
 abbrev pub bit_of : Bool → ℕ
 bit_of true = 1
 bit_of false = 0

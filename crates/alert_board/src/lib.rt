@@ -32,7 +32,7 @@ impl From<AllocError> for NoMemory {
     }
 }
 
-/// A word for each place, which the pen writes and the looks load. Contracts see which board it is.
+/// A word for each place, which the pen writes and the looks load. Contracts see which board it is, and the number of its places as `words`.
 #[derive(Drop)]
 pub struct Board {
     table: Table<(), View, usize, Alerts, Global>,
@@ -104,7 +104,7 @@ impl Board {
 }
 
 impl Pen {
-    /// Publishes flags at a place, under the place's next number.
+    /// Publishes flags at a place, under the place's next number. A place takes up to 2^32 - 1 publications, and done, closed and reset stay once they are set.
     pub fn publish(&mut self, board: &Board, place: u32, flags: Alert)
         requires board { self.old.board ≡ board.now }
         requires place { place < board.now.words }
@@ -154,7 +154,8 @@ impl Pen {
 }
 
 impl Look {
-    /// What one load of a place's word finds.
+    /// What one load of a place's word finds: the place's last publication at that moment, or number 0 and no flag before the first.
+    /// It is no older than what the look has seen there. The call takes no lock and never waits.
     pub fn poll(&mut self, board: &Board, place: u32) -> News
         requires board { self.old.board ≡ board.now }
         requires place { place < board.now.words }

@@ -39,7 +39,7 @@ impl Model for WaitSet {
 }
 
 impl WaitSet {
-    /// A set that has no member yet, with memory for so many.
+    /// A set that has no member yet, with memory for so many: 1 to 512.
     pub fn new(alloc: Global, most: u32) -> Result<WaitSet, NoMemory>
         requires { (1 ≤ most) × (most ≤ 512) }
         ensures { IfOk result (λ set. (set.members ≡ []) × (set.most ≡ most)) }
@@ -48,7 +48,7 @@ impl WaitSet {
         Ok(WaitSet { members, most })
     }
 
-    /// Adds a member that was never picked.
+    /// Adds a member that was never picked. It takes no memory.
     pub fn add(&mut self, member: Member) -> Result<(), SetFault>
         ensures twice { IsErrOf result (SetFault.Twice member.place) ↔ IsSome (waiting_at self.old.members member.place) }
         ensures full { IsErrOf result (SetFault.Full self.old.most) ↔ (IsNone (waiting_at self.old.members member.place) × (length self.old.members ≡ self.old.most)) }
@@ -85,7 +85,7 @@ impl WaitSet {
         }
     }
 
-    /// The lowest member that is ready, with what was found at its place.
+    /// The lowest member that is ready, by its place, with the news by which it is. It takes no lock and no memory, and never waits.
     pub fn pick(&mut self, look: &mut Look, board: &Board) -> Option<(u32, News)>
         requires board { look.old.board ≡ board.now }
         requires places { (p : ℕ) → IsSome (waiting_at self.old.members p) → p < board.now.words }

@@ -4,11 +4,14 @@ ghost use Rattle.wait_set.specs.Ready.{is_ready, wants};
 
 use alert_board::{Alert, News};
 
-/// A place, the flags that it waits for, and whether it waits for news above those that it was last picked by.
+/// A place that is waited for.
 #[derive(Clone, Copy, Debug, PartialEq, Eq)]
 pub struct Member {
+    /// A place of the board.
     pub place: u32,
+    /// The flags of which one has to be set.
     pub mask: Alert,
+    /// It waits for a number above the one at which it was last picked.
     pub edge: bool,
 }
 
