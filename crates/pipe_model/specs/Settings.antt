@@ -1,6 +1,6 @@
 -- The settings of a scene that sets nothing.
 -- A reader learns here which peers meet where a scene says no more.
-use Rattle.std.specs.Prelude.{true, [], ◌∷◌}
+use Rattle.std.specs.Prelude.{ℕ, true, List, [], ◌∷◌}
 use Rattle.pipe_model.specs.declared.Setup.{Setup}
 use Rattle.pipe_model.specs.declared.Room.{Room}
 
