@@ -5,9 +5,9 @@ use Rattle.field_cases.specs.Fields.{zeros}
 use Rattle.cdc_wire.specs.declared.CdcMessage.{CdcMessage}
 use Rattle.cdc_wire.specs.Cdc.{bytes_around, cdc_bytes, cdc_read, IsMessage, IsSpelling}
 
--- a number is read from its bytes, whatever follows
-number_back : (m : CdcMessage) (first second last : List ℕ) → IsMessage m → length first ≡ 2 → length second ≡ 2 → cdc_read (bytes_around first second last m) ≡ Ok m
-number_back m (a ∷ b ∷ []) (c ∷ d ∷ []) last w two too =
+-- field by field, around any reserved bytes
+around_read : (m : CdcMessage) (first second last : List ℕ) → IsMessage m → length first ≡ 2 → length second ≡ 2 → cdc_read (bytes_around first second last m) ≡ Ok m
+around_read m (a ∷ b ∷ []) (c ∷ d ∷ []) last w two too =
     λ i. Ok (record {
       number = big_number-reads_back 2 m.number [] w.number i;
       token = big_number-reads_back 4 m.token [] w.token i;
@@ -16,16 +16,16 @@ number_back m (a ∷ b ∷ []) (c ∷ d ∷ []) last w two too =
       producer = m.producer;
       state = m.state;
     })
-number_back m [] second last w two too = absurd (omega arith)
-number_back m (a ∷ []) second last w two too = absurd (omega arith)
-number_back m (a ∷ b ∷ c ∷ rest) second last w two too = absurd (omega arith)
-number_back m (a ∷ b ∷ []) [] last w two too = absurd (omega arith)
-number_back m (a ∷ b ∷ []) (c ∷ []) last w two too = absurd (omega arith)
-number_back m (a ∷ b ∷ []) (c ∷ d ∷ e ∷ rest) last w two too = absurd (omega arith)
+around_read m [] second last w two too = absurd (omega arith)
+around_read m (a ∷ []) second last w two too = absurd (omega arith)
+around_read m (a ∷ b ∷ c ∷ rest) second last w two too = absurd (omega arith)
+around_read m (a ∷ b ∷ []) [] last w two too = absurd (omega arith)
+around_read m (a ∷ b ∷ []) (c ∷ []) last w two too = absurd (omega arith)
+around_read m (a ∷ b ∷ []) (c ∷ d ∷ e ∷ rest) last w two too = absurd (omega arith)
 
 -- a spelling is read as its message
 pub read_back : (m : CdcMessage) (bytes : List ℕ) → IsMessage m → IsSpelling bytes m → cdc_read bytes ≡ Ok m
-read_back m bytes w s = ap cdc_read s.are ∙ number_back m s.first s.second s.last w s.first_two s.second_two
+read_back m bytes w s = ap cdc_read s.are ∙ around_read m s.first s.second s.last w s.first_two s.second_two
 
 -- what is written is a spelling
 pub written_is_spelling : (m : CdcMessage) → IsSpelling (cdc_bytes m) m
