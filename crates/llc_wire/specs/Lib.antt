@@ -1,0 +1,9 @@
+pub mod AddKeys
+pub mod AddLink
+pub mod ConfirmLink
+pub mod ConfirmRkey
+pub mod DeleteLink
+pub mod DeleteRkey
+pub mod Frame
+pub mod Llc
+pub mod TestLink
