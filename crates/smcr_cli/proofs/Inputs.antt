@@ -6,7 +6,8 @@ use Rattle.byte_port.specs.Causes.{IsRead, Grew}
 use Rattle.smcr_cli.specs.declared.top.Status.{Status}
 use Rattle.smcr_cli.specs.declared.top.Status.TheVariants as statuses
 use Rattle.smcr_cli.specs.declared.top.TheConstants.{MOST_INPUT_BYTES}
-use Rattle.smcr_cli.specs.Top.{Answer, is_command, run_answer, due_answer, IsDue, Finishes, Gives, GivesUp, Tells}
+use Rattle.smcr_cli.specs.Answers.{Answer, IsDue}
+use Rattle.smcr_cli.specs.Top.{is_command, run_answer, due_answer, Finishes, Gives, GivesUp, Tells}
 
 -- there is an input that a source may have left
 pub some_input : (left : Option (List ℕ)) → (input : List ℕ) × IsRead left input

@@ -2,20 +2,17 @@
 -- A reader learns here what each list of words and each input gets, and what stands in its place
 -- where memory, a read or a write fails.
 use Rattle.std.specs.Prelude.{◌≡◌, ℕ, nat_lt, Bool, true, false, if◌then◌else◌, List, [], ◌∷◌, ◌++◌, length, codes, ◌⊎◌, Option, Some, None, Result, Ok, Err, take}
-use Rattle.std.specs.Fmt.{decimal}
 use Rattle.std.specs.Str.{bytes_eq}
 use Rattle.byte_port.specs.Causes.{Grew, IsRead}
 use Rattle.pipe_model.specs.declared.StepFault.{StepFault}
-use Rattle.scene_text.specs.declared.faults.LineKind.{LineKind}
-use Rattle.scene_text.specs.declared.faults.LineKind.TheVariants as kinds
 use Rattle.scene_text.specs.declared.faults.SceneFault.{SceneFault}
-use Rattle.scene_text.specs.declared.faults.SceneFault.TheVariants as faults
 use Rattle.scene_text.specs.Scenes.{PlainScene}
 use Rattle.scene_text.specs.Grammar.{scene_of}
 use Rattle.scene_text.specs.HistoryText.{Printed, history_text}
 use Rattle.smcr_cli.specs.declared.top.Status.{Status}
 use Rattle.smcr_cli.specs.declared.top.Status.TheVariants as statuses
 use Rattle.smcr_cli.specs.declared.top.TheConstants.{MOST_INPUT_BYTES}
+use Rattle.smcr_cli.specs.Answers.{Answer, refusal_text}
 use Rattle.smcr_cli.specs.Runs.{Ran, run_of}
 
 -- the words without the first that is `--`
@@ -30,34 +27,6 @@ is_run _ = false
 
 abbrev pub is_command : List (List ℕ) → Bool
 is_command words = is_run (without_dashes words)
-
--- what is answered, and the text that goes with it
-pub record Answer : Type 0 where
-  pub status : Status
-  pub text : List ℕ
-
-abbrev pub kind_text : LineKind → List ℕ
-kind_text kinds.Char = codes "char"
-kind_text kinds.Word = codes "word"
-kind_text kinds.Count = codes "count"
-kind_text kinds.Order = codes "order"
-kind_text kinds.Again = codes "again"
-kind_text kinds.Name = codes "name"
-kind_text kinds.Side = codes "side"
-kind_text kinds.Number = codes "number"
-kind_text kinds.Bytes = codes "bytes"
-kind_text kinds.Subnet = codes "subnet"
-kind_text kinds.Answer = codes "answer"
-kind_text kinds.Range = codes "range"
-
--- the line that says which line of a scene is refused, and for what
-abbrev pub refused_text : ℕ → List ℕ → List ℕ
-refused_text line what = codes "line " ++ (decimal line ++ (codes ": " ++ (what ++ codes "\n")))
-
-abbrev pub refusal_text : SceneFault → List ℕ
-refusal_text faults.NoMemory = []
-refusal_text (faults.BadLine line kind) = refused_text line (kind_text kind)
-refusal_text (faults.TooMany line limit) = refused_text line (codes "too many")
 
 -- a run that a refused step stopped has spent its room
 abbrev pub status_of : Option StepFault → Status
@@ -85,17 +54,6 @@ due_answer words input =
     if is_command words then
     (if nat_lt MOST_INPUT_BYTES (length input) then record { status = statuses.TooLong; text = codes "too long\n" } else run_answer input)
     else record { status = statuses.Usage; text = codes "usage: smcr run\n" }
-
--- a status that comes where memory, source and sink serve
-abbrev pub IsDue : Status → Type 0
-IsDue statuses.Ok = Unit {0}
-IsDue statuses.NoMemory = ⊥
-IsDue statuses.Usage = Unit {0}
-IsDue statuses.Refused = Unit {0}
-IsDue statuses.ReadFault = ⊥
-IsDue statuses.WriteFault = ⊥
-IsDue statuses.Spent = Unit {0}
-IsDue statuses.TooLong = Unit {0}
 
 -- a text was written and the status stands, or a front of it was and the write failed
 abbrev pub Finishes : Status → Status → List ℕ → Option (List ℕ) → Option (List ℕ) → Type 0

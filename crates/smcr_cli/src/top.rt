@@ -4,7 +4,8 @@ ghost use Rattle.byte_port.specs.Causes.{Rose, Grew};
 ghost use Rattle.scene_text.specs.Scenes.{plain, IsSound};
 ghost use Rattle.scene_text.specs.declared.faults.SceneFault.TheVariants as faults;
 ghost use Rattle.smcr_cli.specs.Runs.{run_of};
-ghost use Rattle.smcr_cli.specs.Top.{is_command, kind_text, refused_text, refusal_text, ran_answer, run_answer, IsDue, Finishes, Tells};
+ghost use Rattle.smcr_cli.specs.Answers.{kind_text, refused_text, refusal_text, IsDue};
+ghost use Rattle.smcr_cli.specs.Top.{is_command, ran_answer, run_answer, Finishes, Tells};
 
 use crate::print::{Texts, push_history, push_number, push_text};
 use crate::run::run_lines;
@@ -69,7 +70,7 @@ fn push_refused(out: &mut Vec<u8>, line: u32, what: &str) -> Result<(), AllocErr
 }
 
 /// Appends what there is to say of a scene that is refused.
-fn push_refusal(out: &mut Vec<u8>, fault: &SceneFault) -> Result<(), AllocError>
+pub fn push_refusal(out: &mut Vec<u8>, fault: &SceneFault) -> Result<(), AllocError>
     ensures { OnOk result (out.new.items ≡ out.old.items ++ refusal_text fault.now) }
 {
     match *fault {

@@ -1,6 +1,7 @@
 use Rattle.std.proofs.Common.{◌≡◌, ◌∙◌, ◌++◌, ◌≤◌, ℕ, List, Option, map, length, codes, sym, ap, subst, refl, true, false, Err}
 use Rattle.smcr_cli.specs.declared.top.Status.TheVariants as statuses
-use Rattle.smcr_cli.specs.Top.{Answer, is_command, run_answer}
+use Rattle.smcr_cli.specs.Answers.{Answer}
+use Rattle.smcr_cli.specs.Top.{is_command, run_answer}
 use Rattle.smcr_cli.proofs.Inputs.{some_input, due-usage, due-long, due-run, told}
 use Rattle.smcr_cli.proofs.top.smcr.Goals as goal
 
