@@ -51,7 +51,7 @@ pub enum SceneFault {
 
 /// Why one line is not taken.
 #[derive(Debug, Drop)]
-pub(crate) enum LineFault {
+pub enum LineFault {
     NoMemory,
     Bad(LineKind),
     Passes { limit: u32 },

@@ -97,7 +97,7 @@ fn are_spaces(line: &[u8]) -> bool
 }
 
 /// Whether a line says nothing.
-fn is_passed_over(line: &[u8]) -> bool
+pub fn is_passed_over(line: &[u8]) -> bool
     ensures { result ≡ is_passed_over line.now }
 {
     match line {
@@ -106,7 +106,8 @@ fn is_passed_over(line: &[u8]) -> bool
     }
 }
 
-fn are_printable(line: &[u8]) -> bool
+/// Whether a line has only bytes that a line may have.
+pub fn are_printable(line: &[u8]) -> bool
     ensures { result ≡ list_all is_printable line.now }
 {
     line.iter().all(|byte| b' ' <= *byte && *byte <= b'~')
@@ -135,7 +136,7 @@ fn read_line(alloc: Global, scene: &mut Scene, line: &[u8]) -> Result<(), LineFa
 }
 
 /// What a fault is in the line with this number.
-fn fault_at(line: u32, fault: LineFault) -> SceneFault
+pub fn fault_at(line: u32, fault: LineFault) -> SceneFault
     ensures { result ≡ fault_at line fault }
 {
     match fault {
@@ -146,7 +147,7 @@ fn fault_at(line: u32, fault: LineFault) -> SceneFault
 }
 
 /// A line that ends at a line feed, without the carriage return before that.
-fn without_return(line: &[u8]) -> &[u8]
+pub fn without_return(line: &[u8]) -> &[u8]
     ensures { result.now ≡ strip_carriage_return line.now }
 {
     match line {

@@ -11,9 +11,10 @@ pub mod limits;
 mod scenes;
 mod words;
 
-pub use faults::{LineKind, SceneFault};
-pub use grammar::read_scene;
+pub use faults::{LineFault, LineKind, SceneFault};
+pub use grammar::{are_printable, fault_at, is_passed_over, read_scene, without_return};
 pub use scenes::{Scene, SceneLine, SceneWhat};
+pub use words::{byte_of, cut, words_of};
 
 #[cfg(test)]
 mod tests;

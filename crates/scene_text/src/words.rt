@@ -20,7 +20,7 @@ fn place_of(bytes: &[u8], mark: u8) -> Option<usize>
 
 /// What stands before the first such byte and what stands behind it, if there is one.
 #[tactic(auto, using(crate::proofs::Cutting::whole_where_none, crate::proofs::Cutting::cut_at_first))]
-pub(crate) fn cut(bytes: &[u8], mark: u8) -> Option<(&[u8], &[u8])>
+pub fn cut(bytes: &[u8], mark: u8) -> Option<(&[u8], &[u8])>
     ensures parts { MatchOption result
         (parts mark bytes.now ≡ bytes.now ∷ [])
         (λ halves. parts mark bytes.now ≡ halves.0.now ∷ parts mark halves.1.now) }
@@ -140,7 +140,7 @@ pub(crate) struct Run {
 }
 
 /// A byte in two hexadecimal digits.
-fn byte_of(high: u8, low: u8) -> Result<u8, LineKind>
+pub fn byte_of(high: u8, low: u8) -> Result<u8, LineKind>
     ensures { result ≡ byte_of high low }
 {
     match (char::from(high).to_digit(16), char::from(low).to_digit(16)) {
@@ -207,7 +207,7 @@ fn push_word<'a>(words: &mut Vec<&'a [u8]>, word: &'a [u8]) -> Result<(), AllocE
 }
 
 /// The words of a line.
-pub(crate) fn words_of<'a>(alloc: Global, line: &'a [u8]) -> Result<Vec<&'a [u8]>, AllocError>
+pub fn words_of<'a>(alloc: Global, line: &'a [u8]) -> Result<Vec<&'a [u8]>, AllocError>
     ensures { IfOk result (λ words. map (λ w. w.now) words.items ≡ words_of line.now) }
 {
     let mut words = Vec::new(alloc);

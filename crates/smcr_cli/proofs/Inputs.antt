@@ -1,28 +1,30 @@
 -- What is due for an input, and what a status says once the text is written.
-use Rattle.std.proofs.Common.{◌≡◌, ◌∙◌, ℕ, ◌<◌, ◌≤◌, inl, inr, true, false, nat_lt, List, [], ◌++◌, length, take, codes, refl, sym, ap, subst, arith, Option, Some, None, length-append}
+use Rattle.std.proofs.Common.{◌≡◌, ◌∙◌, ℕ, ◌+◌, ◌<◌, ◌≤◌, ◌⊎◌, inl, inr, Bool, true, false, nat_lt, List, [], ◌++◌, length, take, codes, refl, sym, ap, subst, arith, Option, Some, None, length-append}
 use Rattle.std.proofs.lemmas.Bool.{cond-true, cond-false}
 use Rattle.std.proofs.lemmas.Bool.Decides.{nat_tests}
 use Rattle.byte_port.specs.Causes.{IsRead, Grew}
+use Rattle.smcr_cli.specs.declared.top.Command.{Command}
 use Rattle.smcr_cli.specs.declared.top.Status.{Status}
 use Rattle.smcr_cli.specs.declared.top.Status.TheVariants as statuses
 use Rattle.smcr_cli.specs.declared.top.TheConstants.{MOST_INPUT_BYTES}
-use Rattle.smcr_cli.specs.Top.{Answer, is_command, run_answer, due_answer, IsDue, Finishes, Gives, Tells}
+use Rattle.smcr_cli.specs.Answers.{Answer, IsDue}
+use Rattle.smcr_cli.specs.Top.{command_of, answer_to, served, due_answer, Finishes, Gives, GivesUp, Tells}
 
 -- there is an input that a source may have left
 pub some_input : (left : Option (List ℕ)) → (input : List ℕ) × IsRead left input
 some_input None = ([], tt)
 some_input (Some bytes) = (bytes, refl)
 
-pub due-usage : (words : List (List ℕ)) (input : List ℕ) → is_command words ≡ false → due_answer words input ≡ record { status = statuses.Usage; text = codes "usage: smcr run\n" }
-due-usage words input e = cond-false (is_command words) _ _ e
+pub due-usage : (words : List (List ℕ)) (input : List ℕ) → command_of words ≡ None → due_answer words input ≡ record { status = statuses.Usage; text = codes "usage: smcr run|show\n" }
+due-usage words input e = ap (λ command. served command input) e
 
-pub due-long : (words : List (List ℕ)) (input rest : List ℕ) → is_command words ≡ true → MOST_INPUT_BYTES < length input → due_answer words (input ++ rest) ≡ record { status = statuses.TooLong; text = codes "too long\n" }
-due-long words input rest e long =
+pub due-long : (words : List (List ℕ)) (command : Command) (input rest : List ℕ) → command_of words ≡ Some command → MOST_INPUT_BYTES < length input → due_answer words (input ++ rest) ≡ record { status = statuses.TooLong; text = codes "too long\n" }
+due-long words command input rest e long =
     let longer : MOST_INPUT_BYTES < length (input ++ rest) = omega (arith, length-append input rest) in
-    cond-true (is_command words) _ _ e ∙ cond-true (nat_lt MOST_INPUT_BYTES (length (input ++ rest))) _ _ (grind (arith, nat_tests, longer))
+    ap (λ c. served c (input ++ rest)) e ∙ cond-true (nat_lt MOST_INPUT_BYTES (length (input ++ rest))) _ _ (grind (arith, nat_tests, longer))
 
-pub due-run : (words : List (List ℕ)) (input : List ℕ) → is_command words ≡ true → length input ≤ MOST_INPUT_BYTES → due_answer words input ≡ run_answer input
-due-run words input e short = cond-true (is_command words) _ _ e ∙ cond-false (nat_lt MOST_INPUT_BYTES (length input)) _ _ (grind (arith, nat_tests, short))
+pub due-command : (words : List (List ℕ)) (command : Command) (input : List ℕ) → command_of words ≡ Some command → length input ≤ MOST_INPUT_BYTES → due_answer words input ≡ answer_to command input
+due-command words command input e short = ap (λ c. served c input) e ∙ cond-false (nat_lt MOST_INPUT_BYTES (length input)) _ _ (grind (arith, nat_tests, short))
 
 -- a due status that was given
 given : (status : Status) (words : List (List ℕ)) (left old new : Option (List ℕ)) → IsDue status → Gives status words left old new → Tells status words left old new

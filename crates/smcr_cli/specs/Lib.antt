@@ -1,3 +1,6 @@
+pub mod Answers
 pub mod Prints
 pub mod Runs
+pub mod ShowLines
+pub mod ShowText
 pub mod Top

@@ -2,62 +2,42 @@
 -- A reader learns here what each list of words and each input gets, and what stands in its place
 -- where memory, a read or a write fails.
 use Rattle.std.specs.Prelude.{◌≡◌, ℕ, nat_lt, Bool, true, false, if◌then◌else◌, List, [], ◌∷◌, ◌++◌, length, codes, ◌⊎◌, Option, Some, None, Result, Ok, Err, take}
-use Rattle.std.specs.Fmt.{decimal}
 use Rattle.std.specs.Str.{bytes_eq}
 use Rattle.byte_port.specs.Causes.{Grew, IsRead}
 use Rattle.pipe_model.specs.declared.StepFault.{StepFault}
-use Rattle.scene_text.specs.declared.faults.LineKind.{LineKind}
-use Rattle.scene_text.specs.declared.faults.LineKind.TheVariants as kinds
 use Rattle.scene_text.specs.declared.faults.SceneFault.{SceneFault}
-use Rattle.scene_text.specs.declared.faults.SceneFault.TheVariants as faults
 use Rattle.scene_text.specs.Scenes.{PlainScene}
 use Rattle.scene_text.specs.Grammar.{scene_of}
-use Rattle.scene_text.specs.HistoryText.{history_text}
+use Rattle.scene_text.specs.HistoryText.{Printed, history_text}
+use Rattle.smcr_cli.specs.declared.top.Command.{Command}
+use Rattle.smcr_cli.specs.declared.top.Command.TheVariants.{Run, Show}
 use Rattle.smcr_cli.specs.declared.top.Status.{Status}
 use Rattle.smcr_cli.specs.declared.top.Status.TheVariants as statuses
 use Rattle.smcr_cli.specs.declared.top.TheConstants.{MOST_INPUT_BYTES}
+use Rattle.smcr_cli.specs.Answers.{Answer, refusal_text}
 use Rattle.smcr_cli.specs.Runs.{Ran, run_of}
+use Rattle.smcr_cli.specs.ShowLines.{show_answer}
 
 -- the words without the first that is `--`
 abbrev pub without_dashes : List (List ℕ) → List (List ℕ)
 without_dashes [] = []
 without_dashes (w ∷ ws) = if bytes_eq w (codes "--") then ws else w ∷ without_dashes ws
 
--- the one word `run`
-abbrev pub is_run : List (List ℕ) → Bool
-is_run (w ∷ []) = bytes_eq w (codes "run")
-is_run _ = false
+-- the command of this name
+abbrev pub command_named : List ℕ → Option Command
+command_named word = if bytes_eq word (codes "run") then Some Run else if bytes_eq word (codes "show") then Some Show else None
 
-abbrev pub is_command : List (List ℕ) → Bool
-is_command words = is_run (without_dashes words)
+-- the command that is the only word
+abbrev pub only_command : List (List ℕ) → Option Command
+only_command (word ∷ []) = command_named word
+only_command _ = None
 
--- what is answered, and the text that goes with it
-pub record Answer : Type 0 where
-  pub status : Status
-  pub text : List ℕ
+-- the command that words are, if they are one
+abbrev pub command_of : List (List ℕ) → Option Command
+command_of words = only_command (without_dashes words)
 
-abbrev pub kind_text : LineKind → List ℕ
-kind_text kinds.Char = codes "char"
-kind_text kinds.Word = codes "word"
-kind_text kinds.Count = codes "count"
-kind_text kinds.Order = codes "order"
-kind_text kinds.Again = codes "again"
-kind_text kinds.Name = codes "name"
-kind_text kinds.Side = codes "side"
-kind_text kinds.Number = codes "number"
-kind_text kinds.Bytes = codes "bytes"
-kind_text kinds.Subnet = codes "subnet"
-kind_text kinds.Answer = codes "answer"
-kind_text kinds.Range = codes "range"
-
--- the line that says which line of a scene is refused, and for what
-abbrev pub refused_text : ℕ → List ℕ → List ℕ
-refused_text line what = codes "line " ++ (decimal line ++ (codes ": " ++ (what ++ codes "\n")))
-
-abbrev pub refusal_text : SceneFault → List ℕ
-refusal_text faults.NoMemory = []
-refusal_text (faults.BadLine line kind) = refused_text line (kind_text kind)
-refusal_text (faults.TooMany line limit) = refused_text line (codes "too many")
+abbrev pub IsCommand : List (List ℕ) → Type 0
+IsCommand words = (command : Command) × (command_of words ≡ Some command)
 
 -- a run that a refused step stopped has spent its room
 abbrev pub status_of : Option StepFault → Status
@@ -79,23 +59,19 @@ scene_answer (Err fault) = record { status = statuses.Refused; text = refusal_te
 abbrev pub run_answer : List ℕ → Answer
 run_answer input = scene_answer (scene_of input)
 
+-- what a command makes of an input
+abbrev pub answer_to : Command → List ℕ → Answer
+answer_to Run input = run_answer input
+answer_to Show input = show_answer input
+
+-- an input gets the command's answer, unless it is too long; without a command there is the usage line
+abbrev pub served : Option Command → List ℕ → Answer
+served None input = record { status = statuses.Usage; text = codes "usage: smcr run|show\n" }
+served (Some command) input = if nat_lt MOST_INPUT_BYTES (length input) then record { status = statuses.TooLong; text = codes "too long\n" } else answer_to command input
+
 -- what words and an input are answered where memory, source and sink serve
 abbrev pub due_answer : List (List ℕ) → List ℕ → Answer
-due_answer words input =
-    if is_command words then
-    (if nat_lt MOST_INPUT_BYTES (length input) then record { status = statuses.TooLong; text = codes "too long\n" } else run_answer input)
-    else record { status = statuses.Usage; text = codes "usage: smcr run\n" }
-
--- a status that comes where memory, source and sink serve
-abbrev pub IsDue : Status → Type 0
-IsDue statuses.Ok = Unit {0}
-IsDue statuses.NoMemory = ⊥
-IsDue statuses.Usage = Unit {0}
-IsDue statuses.Refused = Unit {0}
-IsDue statuses.ReadFault = ⊥
-IsDue statuses.WriteFault = ⊥
-IsDue statuses.Spent = Unit {0}
-IsDue statuses.TooLong = Unit {0}
+due_answer words input = served (command_of words) input
 
 -- a text was written and the status stands, or a front of it was and the write failed
 abbrev pub Finishes : Status → Status → List ℕ → Option (List ℕ) → Option (List ℕ) → Type 0
@@ -114,10 +90,10 @@ GivesUp words left old new = (input : List ℕ) × IsRead left input × ((n : �
 -- due answer, and every other status is the due one.
 abbrev pub Tells : Status → List (List ℕ) → Option (List ℕ) → Option (List ℕ) → Option (List ℕ) → Type 0
 Tells statuses.Ok words left old new = Gives statuses.Ok words left old new
-Tells statuses.NoMemory words left old new = (is_command words ≡ true) × (new ≡ old)
+Tells statuses.NoMemory words left old new = IsCommand words × (new ≡ old)
 Tells statuses.Usage words left old new = Gives statuses.Usage words left old new
 Tells statuses.Refused words left old new = Gives statuses.Refused words left old new
-Tells statuses.ReadFault words left old new = (is_command words ≡ true) × (new ≡ old)
+Tells statuses.ReadFault words left old new = IsCommand words × (new ≡ old)
 Tells statuses.WriteFault words left old new = GivesUp words left old new
 Tells statuses.Spent words left old new = Gives statuses.Spent words left old new
 Tells statuses.TooLong words left old new = Gives statuses.TooLong words left old new

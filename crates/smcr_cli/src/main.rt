@@ -7,6 +7,8 @@
 
 mod print;
 mod run;
+mod show;
+mod show_text;
 mod top;
 
 use byte_port::{ReaderSource, WriterSink};

@@ -11,9 +11,9 @@ struct Case {
     text: &'static [u8],
 }
 
-const USAGE: &[u8] = b"usage: smcr run\n";
+const USAGE: &[u8] = b"usage: smcr run|show\n";
 
-const CASES: [Case; 18] = [
+const CASES: [Case; 20] = [
     Case {
         words: &["run"],
         input: b"",
@@ -121,6 +121,18 @@ const CASES: [Case; 18] = [
         input: b"open s\nread A.s 0\nread A.s 1\nopen s",
         status: Status::Ok,
         text: b"1 main open s: opened\n2 main read A.s 0: data -\n3 main read A.s 1: empty\n4 main open s: name used\nsocket s A wrote 0 read 0 B wrote 0 read 0\nok 4\n",
+    },
+    Case {
+        words: &["show"],
+        input: b"# cut off\nclc e2d4c3d901\nllc 08\n",
+        status: Status::Refused,
+        text: b"line 3: bytes\n",
+    },
+    Case {
+        words: &["--", "show"],
+        input: b"clc e2d4c3d901",
+        status: Status::Ok,
+        text: b"fault short\n",
     },
 ];
 

@@ -4,10 +4,12 @@ ghost use Rattle.byte_port.specs.Causes.{Rose, Grew};
 ghost use Rattle.scene_text.specs.Scenes.{plain, IsSound};
 ghost use Rattle.scene_text.specs.declared.faults.SceneFault.TheVariants as faults;
 ghost use Rattle.smcr_cli.specs.Runs.{run_of};
-ghost use Rattle.smcr_cli.specs.Top.{is_command, kind_text, refused_text, refusal_text, ran_answer, run_answer, IsDue, Finishes, Tells};
+ghost use Rattle.smcr_cli.specs.Answers.{kind_text, refused_text, refusal_text, IsDue};
+ghost use Rattle.smcr_cli.specs.Top.{command_named, command_of, answer_to, ran_answer, run_answer, Finishes, Tells};
 
 use crate::print::{Texts, push_history, push_number, push_text};
 use crate::run::run_lines;
+use crate::show::show;
 use byte_port::{InputFault, Sink, Source, read_input, write_all};
 use scene_text::{LineKind, Scene, SceneFault, read_scene};
 use std::alloc::{AllocError, Global};
@@ -35,6 +37,15 @@ pub enum Status {
     Spent,
     /// The input has too many bytes.
     TooLong,
+}
+
+/// What the program may be asked to do with its input.
+#[derive(Clone, Copy, Debug, PartialEq, Eq)]
+pub enum Command {
+    /// Run a scene, and write its history.
+    Run,
+    /// Show messages, a line each.
+    Show,
 }
 
 /// The word of a kind of fault.
@@ -69,7 +80,7 @@ fn push_refused(out: &mut Vec<u8>, line: u32, what: &str) -> Result<(), AllocErr
 }
 
 /// Appends what there is to say of a scene that is refused.
-fn push_refusal(out: &mut Vec<u8>, fault: &SceneFault) -> Result<(), AllocError>
+pub fn push_refusal(out: &mut Vec<u8>, fault: &SceneFault) -> Result<(), AllocError>
     ensures { OnOk result (out.new.items ≡ out.old.items ++ refusal_text fault.now) }
 {
     match *fault {
@@ -128,16 +139,54 @@ fn run(alloc: Global, input: &[u8], out: &mut Vec<u8>) -> Result<Status, AllocEr
     }
 }
 
-/// Whether the words, without the first that is `--`, are the one word `run`.
-fn names_command(words: &[&str]) -> bool
-    ensures { result ≡ is_command (map (λ w. w.now) words.now) }
+/// Makes the answer of a command to an input.
+fn answer(
+    alloc: Global,
+    command: Command,
+    input: &[u8],
+    out: &mut Vec<u8>,
+) -> Result<Status, AllocError>
+    requires few { length input.now ≤ MOST_INPUT_BYTES }
+    requires empty { out.old.items ≡ [] }
+    ensures answer { IfOk result (λ status. record { status = status; text = out.new.items } ≡ answer_to command input.now) }
+    ensures due { IfOk result (λ status. IsDue status) }
+{
+    match command {
+        Command::Run => run(alloc, input, out),
+        Command::Show => show(alloc, input, out),
+    }
+}
+
+/// The command of this name.
+fn command_named(word: &str) -> Option<Command>
+    ensures { result ≡ command_named word.now }
+{
+    if word == "run" {
+        Some(Command::Run)
+    } else if word == "show" {
+        Some(Command::Show)
+    } else {
+        None
+    }
+}
+
+/// The command that the words are, without the first that is `--`.
+fn command_of(words: &[&str]) -> Option<Command>
+    ensures { result ≡ command_of (map (λ w. w.now) words.now) }
 {
     match *words {
-        [only] => only == "run",
+        [only] if only == "--" => None,
+        [only] => command_named(only),
         [first, second] => {
-            (first == "--" && second == "run") || (first == "run" && second == "--")
+            if first == "--" {
+                command_named(second)
+            } else if second == "--" {
+                command_named(first)
+            } else {
+                None
+            }
         }
-        _ => false,
+        _ => None,
     }
 }
 
@@ -164,9 +213,10 @@ pub fn smcr<S: Source, K: Sink>(
     ensures read { result ≡ Status.ReadFault → Rose (S.faults source.old) (S.faults source.new) }
     ensures write { result ≡ Status.WriteFault → Rose (K.faults sink.old) (K.faults sink.new) }
 {
-    if !names_command(words) {
-        return finish(sink, b"usage: smcr run\n", Status::Usage);
-    }
+    let command = match command_of(words) {
+        Some(command) => command,
+        None => return finish(sink, b"usage: smcr run|show\n", Status::Usage),
+    };
     let mut input = Vec::new(alloc);
     match read_input(source, MOST_INPUT_BYTES as usize, &mut input) {
         Ok(()) => {}
@@ -175,7 +225,7 @@ pub fn smcr<S: Source, K: Sink>(
         Err(InputFault::TooLong) => return finish(sink, b"too long\n", Status::TooLong),
     }
     let mut text = Vec::new(alloc);
-    match run(alloc, &input, &mut text) {
+    match answer(alloc, command, &input, &mut text) {
         Ok(status) => finish(sink, &text, status),
         Err(_) => Status::NoMemory,
     }

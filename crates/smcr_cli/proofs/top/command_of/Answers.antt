@@ -1,7 +1,7 @@
-use Rattle.std.proofs.Common.{◌≤◌, sym, map, length, arith}
+use Rattle.std.proofs.Common.{◌≡◌, ◌≤◌, ℕ, List, sym, map, length, arith}
 use Rattle.std.proofs.lemmas.List.{length-map}
 use Rattle.smcr_cli.proofs.Commands.{many-words}
-use Rattle.smcr_cli.proofs.top.names_command.Goals as goal
+use Rattle.smcr_cli.proofs.top.command_of.Goals as goal
 
 pub returns-in_default-2 : goal.returns-in_default-2
 returns-in_default-2 c =
