@@ -1,9 +1,9 @@
 -- Which events a world takes.
 -- A reader learns here what an actor must keep to: known sockets, known slots, bytes of the payload.
 use Rattle.std.specs.Prelude.{◌≡◌, ℕ, ◌+◌, ◌<◌, ◌≤◌}
-use Rattle.pipe_model.specs.declared.Setup.{Setup}
-use Rattle.pipe_model.specs.declared.Event.{Event}
-use Rattle.pipe_model.specs.declared.Event.TheVariants.{Open, Write, Read, Deliver}
+use Rattle.pipe_model.specs.declared.setup.Setup.{Setup}
+use Rattle.pipe_model.specs.declared.event.Event.{Event}
+use Rattle.pipe_model.specs.declared.event.Event.TheVariants.{Open, Write, Read, Deliver}
 
 -- sockets are below their number, the slot is the one that is built, and the bytes lie in a payload
 -- of so many; no other event is built

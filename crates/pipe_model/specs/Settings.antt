@@ -1,8 +1,8 @@
 -- The settings of a scene that sets nothing.
 -- A reader learns here which peers meet where a scene says no more.
-use Rattle.std.specs.Prelude.{ℕ, true, List, [], ◌∷◌}
-use Rattle.pipe_model.specs.declared.Setup.{Setup}
-use Rattle.pipe_model.specs.declared.Room.{Room}
+use Rattle.std.specs.Prelude.{true, [], ◌∷◌}
+use Rattle.pipe_model.specs.declared.setup.Setup.{Setup}
+use Rattle.pipe_model.specs.declared.setup.Room.{Room}
 
 -- both sides capable in subnet 10.0.0.0/24, two slots, elements of 16,384 bytes, one socket
 abbrev pub default_setup : Setup
