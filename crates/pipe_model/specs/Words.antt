@@ -1,0 +1,33 @@
+-- Small words on truth values, options and lists, for which the standard library has none, and the sizes of a setup.
+-- A reader learns here nothing of SMC-R; each word is read as it is written.
+use Rattle.std.specs.Prelude.{ℕ, ◌+◌, ◌^◌, not, Bool, true, false, List, [], ◌∷◌, Option, Some, None, slice_index_or}
+use Rattle.smc_num.specs.declared.Side.{Side}
+use Rattle.smc_num.specs.Names.{at_side}
+use Rattle.pipe_model.specs.declared.setup.Setup.{Setup}
+
+-- whether two truth values are the same
+abbrev pub same_bool : Bool → Bool → Bool
+same_bool true b = b
+same_bool false b = not b
+
+-- whether there is a value, and it passes
+abbrev pub passes : {X : Type 0} → (X → Bool) → Option X → Bool
+passes f None = false
+passes f (Some x) = f x
+
+-- whether a list is empty
+abbrev pub is_nil : {X : Type 0} → List X → Bool
+is_nil [] = true
+is_nil (x ∷ xs) = false
+
+-- the bytes of one element
+abbrev pub element_size : Setup → ℕ
+element_size setup = 2 ^ (setup.size_code + 14)
+
+-- how many RMBs a side has
+abbrev pub rmbs_of : Setup → Side → ℕ
+rmbs_of setup x = at_side x (slice_index_or setup.rmbs 0 0) (slice_index_or setup.rmbs 1 0)
+
+-- how many elements each RMB of a side has
+abbrev pub elements_of : Setup → Side → ℕ
+elements_of setup x = at_side x (slice_index_or setup.elements 0 0) (slice_index_or setup.elements 1 0)
