@@ -6,3 +6,4 @@ mod GapIsFound
 mod KeyIsAskedAgain
 mod RawClientIsAccepted
 mod FaultyBytesStay
+mod LawfulSteps

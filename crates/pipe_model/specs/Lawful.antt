@@ -104,7 +104,11 @@ IsLawfulPast setup payload (e ∷ older) heard = (before : List ℕ) × IsStep s
 abbrev pub IsLawful : Setup → List ℕ → List Entry → List ℕ → Type 0
 IsLawful setup payload history heard = IsLawfulPast setup payload (reverse history) heard
 
--- the calls of a part with what each is told, the newest first
+-- an entry is a lawful step after these entries, of which the oldest comes first
+abbrev pub IsLawfulAfter : Setup → List ℕ → List Entry → Entry → Type 0
+IsLawfulAfter setup payload earlier e = (before : List ℕ) × ((heard : List ℕ) × IsStep setup payload (reverse earlier) before e heard)
+
+-- what an item is told by the pipe of those before it, where it is a call
 abbrev pub item_told : Terms → Item → List Item → List Told
 item_told t (Calls x call) older = pipe_told t x call (pipe t older) ∷ []
 item_told t _ older = []
@@ -118,7 +122,7 @@ answers t (item ∷ older) = item_told t item older ++ answers t older
 abbrev pub answers_on : Setup → List ℕ → ℕ → List Entry → List Told
 answers_on setup payload s past = answers (terms_of setup) (part payload (group_on s past) s past)
 
--- what the calls of a connection were told in a history, with the bytes that were handed out
+-- whether an item is a call
 abbrev pub is_call_of : Item → Bool
 is_call_of (Calls x call) = true
 is_call_of _ = false

@@ -12,6 +12,7 @@
 mod entry;
 mod event;
 mod flow;
+mod laws;
 mod post;
 mod reply;
 mod setup;
@@ -23,6 +24,9 @@ pub use clc_wire::{ClcFault, ClcMessage, Offer, Proposal, Refusal};
 pub use entry::{Entry, StepFault};
 pub use event::{End, Event};
 pub use flow::{FlowStep, KeyPhase, LinkView};
+pub use laws::{
+    calls_are_told_by_the_pipe, each_entry_is_a_lawful_step, equal_parts_are_told_the_same,
+};
 pub use llc_wire::{KeyToken, LlcMessage, NewKey};
 pub use post::{Placed, Post, PostRef, Posts};
 pub use reply::{Hold, Lack, Reply, ResetCause, SentKind};
