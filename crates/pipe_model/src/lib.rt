@@ -9,18 +9,21 @@
 //! connection, or the history before it, gives, and nothing else is posted.
 #![tactic(auto)]
 
+mod closing;
 mod entry;
 mod event;
 mod flow;
 mod laws;
 mod post;
 mod reply;
+mod sent;
 mod setup;
 mod snapshot;
 mod verdict;
 
 pub use cdc_wire::CdcMessage;
 pub use clc_wire::{ClcFault, ClcMessage, Offer, Proposal, Refusal};
+pub use closing::Phase;
 pub use entry::{Entry, StepFault};
 pub use event::{End, Event};
 pub use flow::{FlowStep, KeyPhase, LinkView};
@@ -30,6 +33,7 @@ pub use laws::{
 pub use llc_wire::{KeyToken, LlcMessage, NewKey};
 pub use post::{Placed, Post, PostRef, Posts};
 pub use reply::{Hold, Lack, Reply, ResetCause, SentKind};
+pub use sent::Sent;
 pub use setup::{Room, Setup};
 pub use smc_num::{Cursor, LinkId, LinkPhase, Side};
 pub use snapshot::Snapshot;
