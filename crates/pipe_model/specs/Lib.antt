@@ -2,6 +2,7 @@ pub mod Calls
 pub mod Closing
 pub mod Ends
 pub mod Fits
+pub mod Parts
 pub mod Pipe
 pub mod Settings
 pub mod Snapshot

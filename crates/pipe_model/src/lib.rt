@@ -12,6 +12,7 @@
 mod entry;
 mod event;
 mod flow;
+mod pipe_laws;
 mod post;
 mod reply;
 mod setup;
@@ -24,6 +25,11 @@ pub use entry::{Entry, StepFault};
 pub use event::{End, Event};
 pub use flow::{FlowStep, KeyPhase, LinkView};
 pub use llc_wire::{KeyToken, LlcMessage, NewKey};
+pub use pipe_laws::{
+    closed_is_told_behind_all_bytes, counts_fit, marks_fit, nothing_is_due,
+    reads_stay_behind_what_was_told, the_flight_is_what_has_not_completed,
+    the_next_snapshot_may_be_taken, the_oldest_snapshot_completes,
+};
 pub use post::{Placed, Post, PostRef, Posts};
 pub use reply::{Hold, Lack, Reply, ResetCause, SentKind};
 pub use setup::{Room, Setup};

@@ -1,0 +1,7 @@
+pub mod Chains
+pub mod Facts
+pub mod Items
+pub mod Parts
+pub mod Settled
+pub mod Sound
+pub mod Shuts

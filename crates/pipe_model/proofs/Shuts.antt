@@ -1,0 +1,285 @@
+-- An end that has taken an aborted snapshot, or told its last one, is reset or closing, and closed is told only behind completed bytes.
+use Rattle.std.proofs.Common.{◌≡◌, ◌∙◌, ℕ, ◌+◌, ◌<◌, ◌≤◌, ◌==◌, ◌⊎◌, inl, inr, min, Bool, true, false, List, [], ◌∷◌, ◌++◌, length, take, drop, refl, ap, sym, subst, arith, if◌then◌else◌, ◌||◌, ◌&&◌, true≢false}
+use Rattle.std.specs.Prelude.{Option, Some, None, is_some}
+use Rattle.std.proofs.lemmas.Bool.{eqb-true}
+use Rattle.smc_num.specs.declared.Side.{Side}
+use Rattle.smc_num.specs.declared.Side.TheVariants.{A, B}
+use Rattle.smc_num.specs.declared.LinkId.{LinkId}
+use Rattle.smc_num.specs.declared.LinkPhase.{LinkPhase}
+use Rattle.smc_num.specs.declared.LinkPhase.TheVariants.{Unused, Pending, Live, Dead}
+use Rattle.smc_num.specs.Names.{other, head}
+use Rattle.smc_num.specs.Numbers.{wire_number}
+use Rattle.pipe_model.specs.declared.reply.ResetCause.{ResetCause}
+use Rattle.pipe_model.specs.declared.reply.ResetCause.TheVariants.{PeerAbort, Gap}
+use Rattle.pipe_model.specs.declared.snapshot.Snapshot.{Snapshot}
+use Rattle.pipe_model.specs.Snapshot.{shows_gap}
+use Rattle.pipe_model.specs.Closing.{Phase, Open, Finished, Closing, ClosePosted, CloseDone, Resetting, AbortPosted, AbortDone, GroupGone, cause_of, is_closing, is_finished, after_finish, after_close, after_abort, struck, ended_with, after_posting, after_completing, after_moving}
+use Rattle.pipe_model.specs.Ends.{Half, Sent, fresh, settle, is_due, is_over, is_due_for_move, meets_fate, loses_group, moves, takes, takes_snapshot, validates, strikes, completes, counts_completed, check, lowest_link, present, posts_batch, window, unread, to_land, to_complete}
+use Rattle.pipe_model.specs.Calls.{Call, Writes, Reads, Finishes, Closes, Aborts, Awaits, Moves, calls, is_ended}
+use Rattle.pipe_model.specs.Pipe.{Pipe, Terms, Item, Fate, GroupEnd, Up, Calls, Lands, Completes, half, pipe, apply}
+use Rattle.pipe_model.specs.Parts.{IsFeasible, Climbs, snapshots, is_shut, ClosesBehindAll, ReadsTold}
+use Rattle.pipe_model.proofs.Chains.{climbs-told, next-of}
+use Rattle.pipe_model.proofs.Sound.{Both}
+use Rattle.pipe_model.proofs.Items.{head-of}
+use Rattle.pipe_model.proofs.Parts.{both}
+
+-- whether a completed or a flying snapshot is closed
+abbrev pub has_closed : Snapshot → List Snapshot → Bool
+has_closed s [] = s.closed
+has_closed s (r ∷ rs) = s.closed || has_closed r rs
+
+pub record Shut (out : ℕ) (fin : Snapshot) (flight : List Snapshot) (phase : Phase) (taken : Snapshot) : Type 0 where
+  pub struck : taken.aborted ≡ true → is_shut phase ≡ true
+  pub closed : has_closed fin flight ≡ true → (is_shut phase ≡ true) × (fin.told ≡ out)
+
+abbrev pub ShutOf : Half → Type 0
+ShutOf h = Shut (length h.out) h.fin h.flight h.phase h.taken
+
+-- an end that is shut stays so
+finish-shut : (p : Phase) → is_shut p ≡ true → is_shut (after_finish p) ≡ true
+finish-shut Open e = e
+finish-shut p e = e
+
+close-shut : (p : Phase) → is_shut p ≡ true → is_shut (after_close p) ≡ true
+close-shut Open e = refl
+close-shut Finished e = refl
+close-shut p e = e
+
+abort-shut : (p : Phase) → is_shut p ≡ true → is_shut (after_abort p) ≡ true
+abort-shut Open e = refl
+abort-shut Finished e = refl
+abort-shut p e = e
+
+struck-shut : (c : ResetCause) (p : Phase) → is_shut (struck c p) ≡ true
+struck-shut c Open = refl
+struck-shut c Finished = refl
+struck-shut c Closing = refl
+struck-shut c ClosePosted = refl
+struck-shut c CloseDone = refl
+struck-shut c (Resetting d) = refl
+struck-shut c (AbortPosted d) = refl
+struck-shut c (AbortDone d) = refl
+struck-shut c (GroupGone g) = refl
+
+ended-shut : (g : ℕ) (p : Phase) → is_shut (ended_with g p) ≡ true
+ended-shut g Open = refl
+ended-shut g Finished = refl
+ended-shut g Closing = refl
+ended-shut g ClosePosted = refl
+ended-shut g CloseDone = refl
+ended-shut g (Resetting d) = refl
+ended-shut g (AbortPosted d) = refl
+ended-shut g (AbortDone d) = refl
+ended-shut g (GroupGone h) = refl
+
+shut-if : (b : Bool) (p q : Phase) → is_shut p ≡ true → is_shut q ≡ true → is_shut (if b then p else q) ≡ true
+shut-if true p q e f = e
+shut-if false p q e f = f
+
+posting-shut : (s : Snapshot) (p : Phase) → is_shut p ≡ true → is_shut (after_posting s p) ≡ true
+posting-shut s Closing e = shut-if s.closed ClosePosted Closing refl refl
+posting-shut s (Resetting c) e = refl
+posting-shut s p e = e
+
+completing-shut : (s : Snapshot) (p : Phase) → is_shut p ≡ true → is_shut (after_completing s p) ≡ true
+completing-shut s ClosePosted e = shut-if s.closed CloseDone ClosePosted refl refl
+completing-shut s (AbortPosted c) e = shut-if s.aborted (AbortDone c) (AbortPosted c) refl refl
+completing-shut s p e = e
+
+moving-shut : (p : Phase) → is_shut p ≡ true → is_shut (after_moving p) ≡ true
+moving-shut ClosePosted e = refl
+moving-shut (AbortPosted c) e = refl
+moving-shut p e = e
+
+-- the phase changes so that what is shut stays so
+rephased : (out : ℕ) (fin : Snapshot) (flight : List Snapshot) (p q : Phase) (taken : Snapshot) → (is_shut p ≡ true → is_shut q ≡ true) → Shut out fin flight p taken → Shut out fin flight q taken
+rephased out fin flight p q taken f s = record { struck = λ e. f (s.struck e); closed = λ e. let c = s.closed e in (f c.0, c.1) }
+
+module _ (h1 h2 : Half) where
+  either : (b : Bool) → ShutOf h1 → ShutOf h2 → ShutOf (if b then h1 else h2)
+  either true x y = x
+  either false x y = y
+
+-- posting
+or-last : (a b c : Bool) → (b ≡ true) ⊎ (c ≡ true) → ((a || b) ≡ true) ⊎ (c ≡ true)
+or-last true b c e = inl refl
+or-last false b c e = e
+
+or-cases : (a b : Bool) → (a || b) ≡ true → (a ≡ true) ⊎ (b ≡ true)
+or-cases true b e = inl refl
+or-cases false b e = inr e
+
+closed-cons : (f r : Snapshot) (ss : List Snapshot) (s : Snapshot) → (f.closed ≡ true) ⊎ ((has_closed r ss ≡ true) ⊎ (s.closed ≡ true)) → ((f.closed || has_closed r ss) ≡ true) ⊎ (s.closed ≡ true)
+closed-cons f r ss s (inl e) = inl (ap (λ b. b || has_closed r ss) e)
+closed-cons f r ss s (inr e) = or-last f.closed (has_closed r ss) s.closed e
+
+closed-rest : (f r : Snapshot) (ss : List Snapshot) (s : Snapshot) → (has_closed r (ss ++ s ∷ []) ≡ true → (has_closed r ss ≡ true) ⊎ (s.closed ≡ true)) → (f.closed ≡ true) ⊎ (has_closed r (ss ++ s ∷ []) ≡ true) → (f.closed ≡ true) ⊎ ((has_closed r ss ≡ true) ⊎ (s.closed ≡ true))
+closed-rest f r ss s g (inl e) = inl e
+closed-rest f r ss s g (inr e) = inr (g e)
+
+closed-append : (f : Snapshot) (ss : List Snapshot) (s : Snapshot) → has_closed f (ss ++ s ∷ []) ≡ true → (has_closed f ss ≡ true) ⊎ (s.closed ≡ true)
+closed-append f [] s e = or-cases f.closed s.closed e
+closed-append f (r ∷ ss) s e = closed-cons f r ss s (closed-rest f r ss s (closed-append r ss s) (or-cases f.closed (has_closed r (ss ++ s ∷ [])) e))
+
+and-parts : (a b : Bool) → (a && b) ≡ true → (a ≡ true) × (b ≡ true)
+and-parts true b e = (refl, e)
+and-parts false b e = absurd (true≢false (sym e))
+
+or-right : (a b : Bool) → b ≡ true → (a || b) ≡ true
+or-right true b e = refl
+or-right false b e = e
+
+posted-closed : (h : Half) → ShutOf h → (has_closed h.fin h.flight ≡ true) ⊎ ((present h).closed ≡ true) → (is_shut h.phase ≡ true) × (h.fin.told ≡ length h.out)
+posted-closed h s (inl e) = s.closed e
+posted-closed h s (inr e) =
+    let p = and-parts (is_closing h.phase) (h.fin.told == length h.out) e in
+    (or-right (is_some (cause_of h.phase)) (is_closing h.phase) p.0, eqb-true h.fin.told (length h.out) p.1)
+
+posted : (h : Half) → ShutOf h → ShutOf (posts_batch h)
+posted h s = record {
+  struck = λ e. posting-shut (present h) h.phase (s.struck e);
+  closed = λ e. let c = posted-closed h s (closed-append h.fin h.flight (present h) e) in (posting-shut (present h) h.phase c.0, c.1);
+}
+
+pub settled-shut : (depth : ℕ) (h : Half) → ShutOf h → ShutOf (settle depth h)
+settled-shut depth h s = either (posts_batch h) h (is_due depth h) (posted h s) s
+
+-- calls
+not-shut : (c l t f : Bool) → (c || ((l || t) || f)) ≡ false → (c || l) ≡ true → true ≡ false
+not-shut true l t f e g = e
+not-shut false true t f e g = e
+not-shut false false t f e g = sym g
+
+accepts-shut : (h : Half) (bytes : List ℕ) (b : Bool) → (is_some (cause_of h.phase) || is_ended h) ≡ b → ShutOf h → ShutOf (if b then h else record h { out = h.out ++ bytes })
+accepts-shut h bytes true e s = s
+accepts-shut h bytes false e s = record {
+  struck = s.struck;
+  closed = λ c. let d = s.closed c in absurd (true≢false (not-shut (is_some (cause_of h.phase)) (is_closing h.phase) h.taken.closed (is_finished h.phase) e d.0));
+}
+
+first-closed : (f : Snapshot) (ss : List Snapshot) → f.closed ≡ true → has_closed f ss ≡ true
+first-closed f [] e = e
+first-closed f (s ∷ ss) e = ap (λ b. b || has_closed s ss) e
+
+moves-shut : (h : Half) → ShutOf h → ShutOf (moves h)
+moves-shut h s = either (record h { link = lowest_link h; last = h.fin; flight = []; phase = after_moving h.phase; sent = h.sent ++ check h ∷ []; landed = length h.sent; completed = length h.sent }) h (is_due_for_move h)
+    (record { struck = λ e. moving-shut h.phase (s.struck e); closed = λ e. let c = s.closed (first-closed h.fin h.flight e) in (moving-shut h.phase c.0, c.1) }) s
+
+call-shut : (size : ℕ) (call : Call) (h : Half) → ShutOf h → ShutOf (calls size call h)
+call-shut size (Writes bytes) h s = accepts-shut h (take (window size h) bytes) (is_some (cause_of h.phase) || is_ended h) refl s
+call-shut size (Reads n) h s = either h (record h { rd = h.rd + min n (unread h) }) _ s s
+call-shut size Finishes h s = either h (record h { finished = true; phase = after_finish h.phase }) _ s (rephased (length h.out) h.fin h.flight h.phase (after_finish h.phase) h.taken (finish-shut h.phase) s)
+call-shut size Closes h s = either h (record h { finished = true; phase = after_close h.phase }) _ s (rephased (length h.out) h.fin h.flight h.phase (after_close h.phase) h.taken (close-shut h.phase) s)
+call-shut size Aborts h s = rephased (length h.out) h.fin h.flight h.phase (after_abort h.phase) h.taken (abort-shut h.phase) s
+call-shut size Awaits h s = s
+call-shut size Moves h s = moves-shut h s
+
+-- fates
+fate-shut : (link : LinkId) (phase : LinkPhase) (h : Half) → ShutOf h → ShutOf (meets_fate link phase h)
+fate-shut link Unused h s = s
+fate-shut link Pending h s = s
+fate-shut link Live h s = s
+fate-shut link Dead h s = s
+
+group-shut : (h : Half) → ShutOf h → ShutOf (loses_group h)
+group-shut h s = rephased (length h.out) h.fin h.flight h.phase (ended_with h.link.group h.phase) h.taken (λ _. ended-shut h.link.group h.phase) s
+
+-- landings
+snapshot-shut : (r : Snapshot) (h : Half) (b : Bool) → r.aborted ≡ b → ShutOf h → ShutOf (if b then strikes PeerAbort (record h { taken = r }) else record h { taken = r })
+snapshot-shut r h true e s = record { struck = λ _. struck-shut PeerAbort h.phase; closed = λ c. let d = s.closed c in (struck-shut PeerAbort h.phase, d.1) }
+snapshot-shut r h false e s = record { struck = λ f. absurd (true≢false (sym f ∙ e)); closed = s.closed }
+
+takes-shut : (o : Option Sent) (h : Half) → ShutOf h → ShutOf (takes o h)
+takes-shut None h s = s
+takes-shut (Some m) h s = either h (if m.check then validates m.snapshot.number h else takes_snapshot m.snapshot h) (is_over h) s
+    (either (validates m.snapshot.number h) (takes_snapshot m.snapshot h) m.check
+    (either (strikes (Gap (wire_number m.snapshot.number) (wire_number h.taken.number)) h) h (shows_gap m.snapshot.number h.taken.number)
+    (rephased (length h.out) h.fin h.flight h.phase (struck (Gap (wire_number m.snapshot.number) (wire_number h.taken.number)) h.phase) h.taken (λ _. struck-shut _ h.phase) s) s)
+    (snapshot-shut m.snapshot h m.snapshot.aborted refl s))
+
+-- completions: the snapshot is the oldest under way
+completed-shut : (size depth : ℕ) (h k : Half) (r : Sent) → r.check ≡ false → drop h.completed h.sent ≡ r ∷ drop (h.completed + 1) h.sent → Both size depth h k → ShutOf h →
+    ShutOf (record (counts_completed h) { fin = r.snapshot; flight = drop 1 h.flight; phase = after_completing r.snapshot h.phase })
+completed-shut size depth h k r e d b s =
+    let w = b.0 in
+    let c = w.0 in
+    let f = w.2 in
+    let rest : List Snapshot = snapshots (drop (h.completed + 1) h.sent) in
+    let i : h.flight ≡ r.snapshot ∷ rest = head-of size depth rest h.flight r.check r.snapshot e (f.is ∙ ap (λ ms. snapshots ms) d) in
+    let climbs = subst (λ ss. Climbs h.fin ss h.last) i f.climbs in
+    let first = climbs.0 in
+    let t = climbs-told r.snapshot h.last rest climbs.1 in
+    let tail : drop 1 h.flight ≡ rest = ap (λ ss. drop 1 ss) i in
+    record {
+      struck = λ g. completing-shut r.snapshot h.phase (s.struck g);
+      closed = λ g.
+          let was : has_closed h.fin h.flight ≡ true = ap (λ ss. has_closed h.fin ss) i ∙ or-right h.fin.closed (has_closed r.snapshot rest) (ap (λ ss. has_closed r.snapshot ss) (sym tail) ∙ g) in
+          let q = s.closed was in
+          (completing-shut r.snapshot h.phase q.0, omega (arith, q.1, first.1, t.0, c.last_out));
+    }
+
+completes-by : (size depth : ℕ) (h k : Half) (r : Sent) (is_check : Bool) → r.check ≡ is_check → drop h.completed h.sent ≡ r ∷ drop (h.completed + 1) h.sent → Both size depth h k → ShutOf h →
+    ShutOf (if is_check then counts_completed h else record (counts_completed h) { fin = r.snapshot; flight = drop 1 h.flight; phase = after_completing r.snapshot h.phase })
+completes-by size depth h k r true e d b s = s
+completes-by size depth h k r false e d b s = completed-shut size depth h k r e d b s
+
+completes-shut : (size depth : ℕ) (h k : Half) → h.completed < length h.sent → Both size depth h k → ShutOf h → ShutOf (completes (head (to_complete h)) h)
+completes-shut size depth h k more b s =
+    let next = next-of h.completed h.sent more in
+    subst (λ o. ShutOf (completes o h)) (sym (ap (λ ms. head ms) next.1)) (completes-by size depth h k next.0 next.0.check refl next.1 b s)
+
+-- every part
+abbrev pub Shuts : Pipe → Type 0
+Shuts p = ShutOf p.a × ShutOf p.b
+
+after-item : (t : Terms) (item : Item) (items : List Item) → IsFeasible t (item ∷ items) → Shuts (pipe t items) → Shuts (apply t.size item (pipe t items))
+after-item t (Fate A link phase) items f s = (fate-shut link phase _ s.0, s.1)
+after-item t (Fate B link phase) items f s = (s.0, fate-shut link phase _ s.1)
+after-item t (GroupEnd A) items f s = (group-shut (pipe t items).a s.0, s.1)
+after-item t (GroupEnd B) items f s = (s.0, group-shut (pipe t items).b s.1)
+after-item t (Up A link) items f s = s
+after-item t (Up B link) items f s = s
+after-item t (Calls A call) items f s = (call-shut t.size call (pipe t items).a s.0, s.1)
+after-item t (Calls B call) items f s = (s.0, call-shut t.size call (pipe t items).b s.1)
+after-item t (Lands A) items f s = (s.0, takes-shut (head (to_land (pipe t items).a)) (pipe t items).b s.1)
+after-item t (Lands B) items f s = (takes-shut (head (to_land (pipe t items).b)) (pipe t items).a s.0, s.1)
+after-item t (Completes A) items f s = (completes-shut t.size t.depth (pipe t items).a (pipe t items).b f.0 (both t A items f.1) s.0, s.1)
+after-item t (Completes B) items f s = (s.0, completes-shut t.size t.depth (pipe t items).b (pipe t items).a f.0 (both t B items f.1) s.1)
+
+fresh-shut : (number : ℕ) → ShutOf (fresh number)
+fresh-shut number = record { struck = λ e. absurd (true≢false (sym e)); closed = λ e. absurd (true≢false (sym e)) }
+
+pub shuts : (t : Terms) (items : List Item) → IsFeasible t items → Shuts (pipe t items)
+shuts t [] f = (fresh-shut t.number, fresh-shut t.number)
+shuts t (item ∷ items) f =
+    let s = after-item t item items f (shuts t items f.1) in
+    (settled-shut t.depth (apply t.size item (pipe t items)).a s.0, settled-shut t.depth (apply t.size item (pipe t items)).b s.1)
+
+shut-half : (x : Side) (p : Pipe) → Shuts p → ShutOf (half x p)
+shut-half A p s = s.0
+shut-half B p s = s.1
+
+pub shut-of : (t : Terms) (x : Side) (items : List Item) → IsFeasible t items → ShutOf (half x (pipe t items))
+shut-of t x items f = shut-half x (pipe t items) (shuts t items f)
+
+-- closed is told only behind completed bytes
+last-closed : (f l : Snapshot) (ss : List Snapshot) → Climbs f ss l → l.closed ≡ true → has_closed f ss ≡ true
+last-closed f l [] g e = subst (λ (s : Snapshot). s.closed ≡ true) (sym g) e
+last-closed f l (s ∷ ss) g e = or-right f.closed (has_closed s ss) (last-closed s l ss g.1 e)
+
+closed-over : (size depth : ℕ) (h k : Half) → Both size depth h k → ShutOf h → ClosesBehindAll h
+closed-over size depth h k b s e = let w = b.0 in let f = w.2 in let c = s.closed (last-closed h.fin h.last h.flight f.climbs e) in c.1
+
+pub closes-behind-all : (t : Terms) (x : Side) (items : List Item) → IsFeasible t items → ClosesBehindAll (half x (pipe t items))
+closes-behind-all t x items f = closed-over t.size t.depth (half x (pipe t items)) (half (other x) (pipe t items)) (both t x items f) (shut-of t x items f)
+
+-- an end that is neither reset nor closing has read no more than it was told
+read-by : (s : Snapshot) (rd : ℕ) (phase : Phase) → (s.aborted ≡ true → is_shut phase ≡ true) → (s.aborted ≡ true) ⊎ (rd ≤ s.told) → is_shut phase ≡ false → rd ≤ s.told
+read-by s rd phase f (inl e) g = absurd (true≢false (sym (f e) ∙ g))
+read-by s rd phase f (inr e) g = e
+
+read-of : (size depth : ℕ) (h k : Half) → Both size depth h k → ShutOf h → ReadsTold h
+read-of size depth h k b s g = let v = b.1 in let c = v.0 in read-by h.taken h.rd h.phase s.struck c.rd_taken g
+
+pub reads-told : (t : Terms) (x : Side) (items : List Item) → IsFeasible t items → ReadsTold (half x (pipe t items))
+reads-told t x items f = read-of t.size t.depth (half x (pipe t items)) (half (other x) (pipe t items)) (both t x items f) (shut-of t x items f)
