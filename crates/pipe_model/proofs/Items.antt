@@ -405,3 +405,17 @@ module _ (size depth : ℕ) where
       let next = next-of h.completed h.sent more in
       let a = counted-by h k (lt-or h.completed h.landed) more b in
       subst (λ o. Both size depth (completes o h) k) (sym (ap (λ ms. head ms) next.1)) (completes-by h k next.0 next.0.check refl more next.1 a b)
+
+-- the snapshot that is next to complete is the oldest of the flight, and tells no less than the last one that completed
+pub next-completes : (size depth : ℕ) (h k : Half) (r : Sent) → r.check ≡ false → drop h.completed h.sent ≡ r ∷ drop (h.completed + 1) h.sent → Both size depth h k →
+    (h.flight ≡ r.snapshot ∷ snapshots (drop (h.completed + 1) h.sent)) × (h.fin.told ≤ r.snapshot.told) × (r.snapshot.told ≤ length h.out)
+next-completes size depth h k r e d b =
+    let w = b.0 in
+    let c = w.0 in
+    let f = w.2 in
+    let rest : List Snapshot = snapshots (drop (h.completed + 1) h.sent) in
+    let i : h.flight ≡ r.snapshot ∷ rest = head-of size depth rest h.flight r.check r.snapshot e (f.is ∙ ap (λ ms. snapshots ms) d) in
+    let climbs = subst (λ ss. Climbs h.fin ss h.last) i f.climbs in
+    let first = climbs.0 in
+    let t = climbs-told r.snapshot h.last rest climbs.1 in
+    (i, first.1, omega (arith, t.0, c.last_out))

@@ -5,3 +5,4 @@ pub mod Parts
 pub mod Settled
 pub mod Sound
 pub mod Shuts
+pub mod Quiet

@@ -45,10 +45,8 @@ seen-from t A B p b = (b.1, b.0)
 seen-from t B A p b = (b.1, b.0)
 seen-from t B B p b = b
 
-next : (t : Terms) (item : Item) (p : Pipe) (broken : Bool) → CanFollow item (half (actor item) p) broken → BothOf t A p → BothOf t A (step t item p)
-next t item p broken f b =
-    let applied : BothOf t A (apply t.size item p) = seen-from t (actor item) A (apply t.size item p) (kept t item p broken f (seen-from t A (actor item) p b)) in
-    settled t.size t.depth (apply t.size item p).a (apply t.size item p).b applied
+after : (t : Terms) (item : Item) (p : Pipe) (broken : Bool) → CanFollow item (half (actor item) p) broken → BothOf t A p → BothOf t A (apply t.size item p)
+after t item p broken f b = seen-from t (actor item) A (apply t.size item p) (kept t item p broken f (seen-from t A (actor item) p b))
 
 fresh-way : (size depth number : ℕ) → Way size depth (fresh number) (fresh number)
 fresh-way size depth number = (
@@ -73,8 +71,12 @@ fresh-way size depth number = (
 
 holds : (t : Terms) (items : List Item) → IsFeasible t items → BothOf t A (pipe t items)
 holds t [] f = (fresh-way t.size t.depth t.number, fresh-way t.size t.depth t.number)
-holds t (item ∷ items) f = next t item (pipe t items) _ f.0 (holds t items f.1)
+holds t (item ∷ items) f = settled t.size t.depth (apply t.size item (pipe t items)).a (apply t.size item (pipe t items)).b (after t item (pipe t items) _ f.0 (holds t items f.1))
 
 -- over every part that can be, for either side
 pub both : (t : Terms) (x : Side) (items : List Item) → IsFeasible t items → BothOf t x (pipe t items)
 both t x items f = seen-from t A x (pipe t items) (holds t items f)
+
+-- and after the next item, before what becomes due with it is posted
+pub both-after : (t : Terms) (x : Side) (item : Item) (items : List Item) → IsFeasible t (item ∷ items) → BothOf t x (apply t.size item (pipe t items))
+both-after t x item items f = seen-from t A x (apply t.size item (pipe t items)) (after t item (pipe t items) _ f.0 (holds t items f.1))

@@ -27,7 +27,7 @@ tells-same s = all-true (s.told == s.told) (s.read == s.read) (same_bool s.done 
     (same-number s.told) (same-number s.read) (same-bool s.done) (same-bool s.closed) (same-bool s.aborted)
 
 -- the phase after posting has a cause exactly where it had one before, and is closing exactly where it was
-cause-kept : (s : Snapshot) (p : Phase) → is_some (cause_of (after_posting s p)) ≡ is_some (cause_of p)
+pub cause-kept : (s : Snapshot) (p : Phase) → is_some (cause_of (after_posting s p)) ≡ is_some (cause_of p)
 cause-kept s Open = refl
 cause-kept s Finished = refl
 cause-kept s Closing = closing-kept s.closed
@@ -42,7 +42,7 @@ cause-kept s (AbortPosted cause) = refl
 cause-kept s (AbortDone cause) = refl
 cause-kept s (GroupGone group) = refl
 
-closing-kept : (s : Snapshot) (p : Phase) → is_closing (after_posting s p) ≡ is_closing p
+pub closing-kept : (s : Snapshot) (p : Phase) → is_closing (after_posting s p) ≡ is_closing p
 closing-kept s Open = refl
 closing-kept s Finished = refl
 closing-kept s Closing = both s.closed

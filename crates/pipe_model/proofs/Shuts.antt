@@ -105,7 +105,7 @@ or-last : (a b c : Bool) → (b ≡ true) ⊎ (c ≡ true) → ((a || b) ≡ tru
 or-last true b c e = inl refl
 or-last false b c e = e
 
-or-cases : (a b : Bool) → (a || b) ≡ true → (a ≡ true) ⊎ (b ≡ true)
+pub or-cases : (a b : Bool) → (a || b) ≡ true → (a ≡ true) ⊎ (b ≡ true)
 or-cases true b e = inl refl
 or-cases false b e = inr e
 
@@ -121,11 +121,11 @@ closed-append : (f : Snapshot) (ss : List Snapshot) (s : Snapshot) → has_close
 closed-append f [] s e = or-cases f.closed s.closed e
 closed-append f (r ∷ ss) s e = closed-cons f r ss s (closed-rest f r ss s (closed-append r ss s) (or-cases f.closed (has_closed r (ss ++ s ∷ [])) e))
 
-and-parts : (a b : Bool) → (a && b) ≡ true → (a ≡ true) × (b ≡ true)
+pub and-parts : (a b : Bool) → (a && b) ≡ true → (a ≡ true) × (b ≡ true)
 and-parts true b e = (refl, e)
 and-parts false b e = absurd (true≢false (sym e))
 
-or-right : (a b : Bool) → b ≡ true → (a || b) ≡ true
+pub or-right : (a b : Bool) → b ≡ true → (a || b) ≡ true
 or-right true b e = refl
 or-right false b e = e
 
