@@ -6,3 +6,6 @@ pub mod Settled
 pub mod Sound
 pub mod Shuts
 pub mod Quiet
+pub mod Near
+pub mod Joins
+pub mod Whole
