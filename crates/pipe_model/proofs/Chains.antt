@@ -11,13 +11,15 @@ abbrev pub Under : ℕ → ℕ → ℕ → List Sent → Type 0
 Under number out rd [] = Unit {0}
 Under number out rd (m ∷ ms) = (m.snapshot.number ≤ number) × (m.snapshot.told ≤ out) × (m.snapshot.read ≤ rd) × Under number out rd ms
 
--- from a taken read count and a reach of told bytes on, read counts never fall, and told counts fall only in an aborted snapshot
-abbrev pub Rises : ℕ → ℕ → Snapshot → Type 0
-Rises read reach s = (read ≤ s.read) × ((s.aborted ≡ true) ⊎ (reach ≤ s.told))
+-- from a taken number, read count and reach of told bytes on, numbers rise, read counts never fall, and told counts fall only in
+-- an aborted snapshot
+abbrev pub Rises : ℕ → ℕ → ℕ → Snapshot → Type 0
+Rises number read reach s = (number < s.number) × (read ≤ s.read) × ((s.aborted ≡ true) ⊎ (reach ≤ s.told))
 
-abbrev pub Ascends : ℕ → ℕ → List Sent → Type 0
-Ascends read reach [] = Unit {0}
-Ascends read reach (m ∷ ms) = ((m.check ≡ true) × Ascends read reach ms) ⊎ ((m.check ≡ false) × Rises read reach m.snapshot × Ascends m.snapshot.read (max reach m.snapshot.told) ms)
+abbrev pub Ascends : ℕ → ℕ → ℕ → List Sent → Type 0
+Ascends number read reach [] = Unit {0}
+Ascends number read reach (m ∷ ms) =
+    ((m.check ≡ true) × Ascends number read reach ms) ⊎ ((m.check ≡ false) × Rises number read reach m.snapshot × Ascends m.snapshot.number m.snapshot.read (max reach m.snapshot.told) ms)
 
 pub under-more : (n n2 o o2 r r2 : ℕ) (ms : List Sent) → n ≤ n2 → o ≤ o2 → r ≤ r2 → Under n o r ms → Under n2 o2 r2 ms
 under-more n n2 o o2 r r2 [] a b c u = tt
@@ -33,33 +35,31 @@ under-drop n o r zero (m ∷ ms) u = u
 under-drop n o r (suc i) [] u = tt
 under-drop n o r (suc i) (m ∷ ms) u = under-drop n o r i ms u.3
 
-rises-less : (read read2 reach reach2 : ℕ) (s : Snapshot) → read2 ≤ read → reach2 ≤ reach → Rises read reach s → Rises read2 reach2 s
-rises-less read read2 reach reach2 s a b (c, inl d) = (omega arith, inl d)
-rises-less read read2 reach reach2 s a b (c, inr d) = (omega arith, inr (omega arith))
+rises-less : (number number2 read read2 reach reach2 : ℕ) (s : Snapshot) → number2 ≤ number → read2 ≤ read → reach2 ≤ reach → Rises number read reach s → Rises number2 read2 reach2 s
+rises-less number number2 read read2 reach reach2 s n a b (l, c, inl d) = (omega arith, omega arith, inl d)
+rises-less number number2 read read2 reach reach2 s n a b (l, c, inr d) = (omega arith, omega arith, inr (omega arith))
 
-pub ascends-less : (read read2 reach reach2 : ℕ) (ms : List Sent) → read2 ≤ read → reach2 ≤ reach → Ascends read reach ms → Ascends read2 reach2 ms
-ascends-less read read2 reach reach2 [] a b c = tt
-ascends-less read read2 reach reach2 (m ∷ ms) a b (inl c) = inl (c.0, ascends-less read read2 reach reach2 ms a b c.1)
-ascends-less read read2 reach reach2 (m ∷ ms) a b (inr c) = inr (c.0, rises-less read read2 reach reach2 m.snapshot a b c.1, ascends-less m.snapshot.read m.snapshot.read (max reach m.snapshot.told) (max reach2 m.snapshot.told) ms (omega arith) (omega arith) c.2)
+pub ascends-less : (number number2 read read2 reach reach2 : ℕ) (ms : List Sent) → number2 ≤ number → read2 ≤ read → reach2 ≤ reach → Ascends number read reach ms → Ascends number2 read2 reach2 ms
+ascends-less number number2 read read2 reach reach2 [] n a b c = tt
+ascends-less number number2 read read2 reach reach2 (m ∷ ms) n a b (inl c) = inl (c.0, ascends-less number number2 read read2 reach reach2 ms n a b c.1)
+ascends-less number number2 read read2 reach reach2 (m ∷ ms) n a b (inr c) = inr (
+  c.0,
+  rises-less number number2 read read2 reach reach2 m.snapshot n a b c.1,
+  ascends-less m.snapshot.number m.snapshot.number m.snapshot.read m.snapshot.read (max reach m.snapshot.told) (max reach2 m.snapshot.told) ms (omega arith) (omega arith) (omega arith) c.2,
+)
 
 -- what the messages after the first are past
-pub ascends-tail : (read reach : ℕ) (m : Sent) (ms : List Sent) → Ascends read reach (m ∷ ms) → Ascends read reach ms
-ascends-tail read reach m ms (inl c) = c.1
-ascends-tail read reach m ms (inr c) = let r = c.1 in ascends-less m.snapshot.read read (max reach m.snapshot.told) reach ms r.0 (omega arith) c.2
+pub ascends-tail : (number read reach : ℕ) (m : Sent) (ms : List Sent) → Ascends number read reach (m ∷ ms) → Ascends number read reach ms
+ascends-tail number read reach m ms (inl c) = c.1
+ascends-tail number read reach m ms (inr c) = let r = c.1 in ascends-less m.snapshot.number number m.snapshot.read read (max reach m.snapshot.told) reach ms (omega (arith, r.0)) r.1 (omega arith) c.2
 
--- a check may always follow
-pub ascends-check : (read reach : ℕ) (ms : List Sent) (m : Sent) → m.check ≡ true → Ascends read reach ms → Ascends read reach (ms ++ m ∷ [])
-ascends-check read reach [] m e a = inl (e, tt)
-ascends-check read reach (k ∷ ms) m e (inl a) = inl (a.0, ascends-check read reach ms m e a.1)
-ascends-check read reach (k ∷ ms) m e (inr a) = inr (a.0, a.1, ascends-check k.snapshot.read (max reach k.snapshot.told) ms m e a.2)
-
--- a snapshot may follow that reads and tells no less than any before it, or is aborted
-pub ascends-append : (read reach n o r : ℕ) (ms : List Sent) (m : Sent) → m.check ≡ false → Under n o r ms → read ≤ r → reach ≤ o → Rises r o m.snapshot → Ascends read reach ms → Ascends read reach (ms ++ m ∷ [])
-ascends-append read reach n o r [] m e u a b c d = inr (e, rises-less r read o reach m.snapshot a b c, tt)
-ascends-append read reach n o r (k ∷ ms) m e u a b c (inl d) = inl (d.0, ascends-append read reach n o r ms m e u.3 a b c d.1)
-ascends-append read reach n o r (k ∷ ms) m e u a b c (inr d) =
+-- a snapshot may follow that tells a greater number and reads no less than any before it, and tells no less or is aborted
+pub ascends-append : (number read reach n o r : ℕ) (ms : List Sent) (m : Sent) → m.check ≡ false → Under n o r ms → number ≤ n → read ≤ r → reach ≤ o → Rises n r o m.snapshot → Ascends number read reach ms → Ascends number read reach (ms ++ m ∷ [])
+ascends-append number read reach n o r [] m e u l a b c d = inr (e, rises-less n number r read o reach m.snapshot l a b c, tt)
+ascends-append number read reach n o r (k ∷ ms) m e u l a b c (inl d) = inl (d.0, ascends-append number read reach n o r ms m e u.3 l a b c d.1)
+ascends-append number read reach n o r (k ∷ ms) m e u l a b c (inr d) =
     let v = u.1 in
-    inr (d.0, d.1, ascends-append k.snapshot.read (max reach k.snapshot.told) n o r ms m e u.3 u.2 (omega arith) c d.2)
+    inr (d.0, d.1, ascends-append k.snapshot.number k.snapshot.read (max reach k.snapshot.told) n o r ms m e u.3 u.0 u.2 (omega arith) c d.2)
 
 snapshots-by : (b : Bool) (s : Snapshot) (ms ns : List Snapshot) (rest : List Snapshot) → ns ≡ ms ++ rest → (if b then ns else s ∷ ns) ≡ (if b then ms else s ∷ ms) ++ rest
 snapshots-by true s ms ns rest e = e

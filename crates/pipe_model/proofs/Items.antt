@@ -130,7 +130,7 @@ module _ (size depth : ℕ) where
           record {
             within = e.within;
             under = e.under;
-            ascends = ascends-less h.taken.read h.taken.read (max h.taken.told h.rd) (max h.taken.told (h.rd + bytes)) (drop k.landed k.sent) (omega arith) (omega (arith, fits)) e.ascends;
+            ascends = ascends-less h.taken.number h.taken.number h.taken.read h.taken.read (max h.taken.told h.rd) (max h.taken.told (h.rd + bytes)) (drop k.landed k.sent) (omega arith) (omega arith) (omega (arith, fits)) e.ascends;
           },
           v.2,
           v.3,
@@ -179,7 +179,7 @@ module _ (size depth : ℕ) where
           record {
             within = omega (arith, l);
             under = under-append h.number (length h.out) h.rd h.sent r a.under (omega (arith, e, c.fin_number, c.last_number)) (omega (arith, f, c.fin_last, c.last_out)) (omega (arith, g));
-            ascends = subst (λ ms. Ascends k.taken.read (max k.taken.told k.rd) ms) (sym d) (inl (is_check, tt));
+            ascends = subst (λ ms. Ascends k.taken.number k.taken.read (max k.taken.told k.rd) ms) (sym d) (inl (is_check, tt));
           },
           record {
             within = omega (arith, l);
@@ -202,8 +202,8 @@ module _ (size depth : ℕ) where
   kept-move h k b = move-by h k (is_due_for_move h) b
 
   -- the message that is to land, and what stands after it
-  pub next-ascends : (h k : Half) (r : Sent) → drop h.landed h.sent ≡ r ∷ drop (h.landed + 1) h.sent → Both size depth h k → Ascends k.taken.read (max k.taken.told k.rd) (r ∷ drop (h.landed + 1) h.sent)
-  next-ascends h k r d b = let a = b.0 in let c = a.1 in subst (λ ms. Ascends k.taken.read (max k.taken.told k.rd) ms) d c.ascends
+  pub next-ascends : (h k : Half) (r : Sent) → drop h.landed h.sent ≡ r ∷ drop (h.landed + 1) h.sent → Both size depth h k → Ascends k.taken.number k.taken.read (max k.taken.told k.rd) (r ∷ drop (h.landed + 1) h.sent)
+  next-ascends h k r d b = let a = b.0 in let c = a.1 in subst (λ ms. Ascends k.taken.number k.taken.read (max k.taken.told k.rd) ms) d c.ascends
 
   pub next-under : (h k : Half) (r : Sent) → drop h.landed h.sent ≡ r ∷ drop (h.landed + 1) h.sent → Both size depth h k → Under h.number (length h.out) h.rd (r ∷ drop (h.landed + 1) h.sent)
   next-under h k r d b = let a = b.0 in let c = a.1 in subst (λ ms. Under h.number (length h.out) h.rd ms) d (under-drop h.number (length h.out) h.rd h.landed h.sent c.under)
@@ -218,7 +218,7 @@ module _ (size depth : ℕ) where
           record {
             within = omega (arith, more);
             under = a.under;
-            ascends = ascends-tail k.taken.read (max k.taken.told k.rd) r (drop (h.landed + 1) h.sent) (next-ascends h k r d b);
+            ascends = ascends-tail k.taken.number k.taken.read (max k.taken.told k.rd) r (drop (h.landed + 1) h.sent) (next-ascends h k r d b);
           },
           w.2,
           omega (arith, w.3),
@@ -227,9 +227,9 @@ module _ (size depth : ℕ) where
       )
 
   -- it is taken
-  rises-of : (read reach : ℕ) (r : Sent) (ms : List Sent) → r.check ≡ false → Ascends read reach (r ∷ ms) → Rises read reach r.snapshot × Ascends r.snapshot.read (max reach r.snapshot.told) ms
-  rises-of read reach r ms e (inl a) = absurd (true≢false (sym a.0 ∙ e))
-  rises-of read reach r ms e (inr a) = (a.1, a.2)
+  rises-of : (number read reach : ℕ) (r : Sent) (ms : List Sent) → r.check ≡ false → Ascends number read reach (r ∷ ms) → Rises number read reach r.snapshot × Ascends r.snapshot.number r.snapshot.read (max reach r.snapshot.told) ms
+  rises-of number read reach r ms e (inl a) = absurd (true≢false (sym a.0 ∙ e))
+  rises-of number read reach r ms e (inr a) = (a.1, a.2)
 
   taken-reach : (told rd : ℕ) (s : Snapshot) → (s.aborted ≡ true) ⊎ (max told rd ≤ s.told) → (s.aborted ≡ true) ⊎ (rd ≤ s.told)
   taken-reach told rd s (inl e) = inl e
@@ -246,7 +246,7 @@ module _ (size depth : ℕ) where
       let u = next-under h k r d b in
       let rest : List Sent = drop (h.landed + 1) h.sent in
       let s : Snapshot = r.snapshot in
-      let q = rises-of k.taken.read (max k.taken.told k.rd) r rest e (next-ascends h k r d b) in
+      let q = rises-of k.taken.number k.taken.read (max k.taken.told k.rd) r rest e (next-ascends h k r d b) in
       let p = q.0 in (
         (
           record {
@@ -260,13 +260,13 @@ module _ (size depth : ℕ) where
             taken_out = u.1;
             rd_out = c.rd_out;
             taken_rd = c.taken_rd;
-            rd_taken = taken-reach k.taken.told k.rd s p.1;
+            rd_taken = taken-reach k.taken.told k.rd s p.2;
             taken_number = u.0;
           },
           record {
             within = omega (arith, more);
             under = a.under;
-            ascends = ascends-less s.read s.read (max (max k.taken.told k.rd) s.told) (max s.told k.rd) rest (omega arith) (omega arith) q.1;
+            ascends = ascends-less s.number s.number s.read s.read (max (max k.taken.told k.rd) s.told) (max s.told k.rd) rest (omega arith) (omega arith) (omega arith) q.1;
           },
           w.2,
           omega (arith, w.3),
@@ -279,7 +279,7 @@ module _ (size depth : ℕ) where
             last_number = g.last_number;
             last_read = g.last_read;
             window_fin = g.window_fin;
-            window_taken = omega (arith, g.window_taken, p.0);
+            window_taken = omega (arith, g.window_taken, p.1);
             taken_out = g.taken_out;
             rd_out = g.rd_out;
             taken_rd = u.2;

@@ -81,7 +81,7 @@ behind-self : (s last : Snapshot) (ss : List Snapshot) → Climbs s ss last → 
 behind-self s last [] c = λ e. omega arith
 behind-self s last (r ∷ ss) c = (λ e. omega arith, let m = c.0 in behind-later s r last ss m.0 c.1)
 
-climbs-has : (first s last : Snapshot) (ss : List Snapshot) → Climbs first ss last → Has s ss → first.told ≤ s.told
+pub climbs-has : (first s last : Snapshot) (ss : List Snapshot) → Climbs first ss last → Has s ss → first.told ≤ s.told
 climbs-has first s last [] c h = absurd h
 climbs-has first s last (r ∷ ss) c (inl e) = let m = c.0 in subst (λ (q : Snapshot). first.told ≤ q.told) (sym e) m.1
 climbs-has first s last (r ∷ ss) c (inr h) = let m = c.0 in let n = climbs-has r s last ss c.1 h in omega (arith, m.1, n)

@@ -30,7 +30,7 @@ pub record Counts (size out number rd : ℕ) (fin last taken : Snapshot) (peer_r
 pub record Ahead (sent : List Sent) (landed out number rd peer_rd : ℕ) (peer_taken : Snapshot) : Type 0 where
   pub within : landed ≤ length sent
   pub under : Under number out rd sent
-  pub ascends : Ascends peer_taken.read (max peer_taken.told peer_rd) (drop landed sent)
+  pub ascends : Ascends peer_taken.number peer_taken.read (max peer_taken.told peer_rd) (drop landed sent)
 
 -- the snapshots under way, of the messages of which a number has completed
 pub record Flight (depth : ℕ) (sent : List Sent) (done number : ℕ) (fin last : Snapshot) (flight : List Snapshot) : Type 0 where
@@ -65,9 +65,9 @@ present-told : (b : Bool) (last out : ℕ) → last ≤ out → (last ≤ (if b 
 present-told true last out l = (omega arith, l)
 present-told false last out l = (l, omega arith)
 
-present-rises : (b : Bool) (rd last out : ℕ) (s : Snapshot) → s.read ≡ rd → s.aborted ≡ b → s.told ≡ (if b then last else out) → Rises rd out s
-present-rises true rd last out s e f g = (omega arith, inl f)
-present-rises false rd last out s e f g = (omega arith, inr (omega arith))
+present-rises : (b : Bool) (number rd last out : ℕ) (s : Snapshot) → s.number ≡ number + 1 → s.read ≡ rd → s.aborted ≡ b → s.told ≡ (if b then last else out) → Rises number rd out s
+present-rises true number rd last out s n e f g = (omega arith, omega arith, inl f)
+present-rises false number rd last out s n e f g = (omega arith, omega arith, inr (omega arith))
 
 posted-counts : (size : ℕ) (h k : Half) → CountsOf size h k → CountsOf size (posts_batch h) k
 posted-counts size h k c =
@@ -91,15 +91,15 @@ posted-ahead : (size : ℕ) (h k : Half) → CountsOf size h k → k.taken.read 
 posted-ahead size h k c r a =
     let t = present-told (is_some (cause_of h.phase)) h.last.told (length h.out) c.last_out in
     let u : Under (h.number + 1) (length h.out) h.rd h.sent = under-more h.number (h.number + 1) (length h.out) (length h.out) h.rd h.rd h.sent (omega arith) (omega arith) (omega arith) a.under in
-    let v : Under (h.number + 1) (length h.out) h.rd (drop h.landed h.sent) = under-drop (h.number + 1) (length h.out) h.rd h.landed h.sent u in
+    let v : Under h.number (length h.out) h.rd (drop h.landed h.sent) = under-drop h.number (length h.out) h.rd h.landed h.sent a.under in
     let l : length (h.sent ++ batch h ∷ []) ≡ length h.sent + 1 = length-append h.sent (batch h ∷ []) in
     let d : drop h.landed (h.sent ++ batch h ∷ []) ≡ drop h.landed h.sent ++ batch h ∷ [] = drop-append-le h.landed h.sent (batch h ∷ []) a.within in
     record {
       within = omega (arith, a.within, l);
       under = under-append (h.number + 1) (length h.out) h.rd h.sent (batch h) u (omega arith) t.1 (omega arith);
-      ascends = subst (λ ms. Ascends k.taken.read (max k.taken.told k.rd) ms) (sym d)
-          (ascends-append k.taken.read (max k.taken.told k.rd) (h.number + 1) (length h.out) h.rd (drop h.landed h.sent) (batch h) refl v r (omega (arith, c.taken_out, c.rd_out))
-          (present-rises (is_some (cause_of h.phase)) h.rd h.last.told (length h.out) (present h) refl refl refl) a.ascends);
+      ascends = subst (λ ms. Ascends k.taken.number k.taken.read (max k.taken.told k.rd) ms) (sym d)
+          (ascends-append k.taken.number k.taken.read (max k.taken.told k.rd) h.number (length h.out) h.rd (drop h.landed h.sent) (batch h) refl v c.taken_number r (omega (arith, c.taken_out, c.rd_out))
+          (present-rises (is_some (cause_of h.phase)) h.number h.rd h.last.told (length h.out) (present h) refl refl refl refl) a.ascends);
     }
 
 posted-flight : (size depth : ℕ) (h k : Half) → CountsOf size h k → nat_lt (length h.flight) depth ≡ true → FlightOf depth h → FlightOf depth (posts_batch h)

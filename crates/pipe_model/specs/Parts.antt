@@ -94,13 +94,16 @@ pub record IsMarked (h : Half) : Type 0 where
 abbrev pub IsSettled : ℕ → Half → Type 0
 IsSettled depth h = is_due depth h ≡ false
 
--- that an end y may take a snapshot of its peer x: it tells no less read than was taken, and no more than y accepted; its
--- bytes fit into y's element behind those that y has read; and it tells no less bytes than were taken, but for an aborted one
+-- that an end y may take a snapshot of its peer: its number is past the one that was taken; it reads no less than was taken,
+-- and no more than y accepted; its bytes fit into y's element behind those that y has read; and it tells no less than was
+-- taken, but for an aborted one, which may tell less by at most an element
 pub record MayTake (size : ℕ) (s : Snapshot) (y : Half) : Type 0 where
+  pub number_rises : y.taken.number < s.number
   pub reads_on : y.taken.read ≤ s.read
   pub reads_accepted : s.read ≤ length y.out
   pub fits : s.told ≤ y.rd + size
   pub tells_on : (s.aborted ≡ true) ⊎ (y.taken.told ≤ s.told)
+  pub tells_near : y.taken.told ≤ s.told + size
 
 -- that closed was told only once all bytes had completed, of which no more come
 abbrev pub ClosesBehindAll : Half → Type 0
