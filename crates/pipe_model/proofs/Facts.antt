@@ -26,6 +26,7 @@ counted size depth x y b =
       taken_fits = omega (arith, c.taken_out, c.window_taken, c.taken_rd);
       accepted_fits = omega (arith, c.window_taken, c.taken_rd);
       read = c.rd_out;
+      read_told = c.rd_taken;
       read_taken = c.taken_rd;
       completed_number = c.fin_number;
       last_number = c.last_number;

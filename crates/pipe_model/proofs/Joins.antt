@@ -1,10 +1,10 @@
 -- Messages whose bytes go on where those before them end, and snapshots that tell no more than what was taken.
-use Rattle.std.proofs.Common.{◌≡◌, ◌∙◌, ℕ, ◌+◌, ◌<◌, ◌≤◌, ◌⊎◌, inl, inr, Bool, true, false, List, [], ◌∷◌, ◌++◌, drop, refl, ap, sym, subst, arith, if◌then◌else◌, true≢false, suc, zero}
+use Rattle.std.proofs.Common.{◌≡◌, ◌∙◌, ℕ, ◌<◌, ◌≤◌, ◌⊎◌, inl, inr, Bool, true, false, List, [], ◌∷◌, ◌++◌, drop, refl, ap, sym, subst, arith, if◌then◌else◌, true≢false, suc, zero}
 use Rattle.std.specs.Prelude.{is_some}
 use Rattle.smc_num.specs.Names.{head}
 use Rattle.pipe_model.specs.declared.snapshot.Snapshot.{Snapshot}
 use Rattle.pipe_model.specs.Ends.{Sent}
-use Rattle.pipe_model.specs.Parts.{snapshots, TellsMore, Climbs}
+use Rattle.pipe_model.specs.Parts.{snapshots, Climbs}
 
 -- that the bytes of snapshots go on, without a hole, from a place to which bytes have come up to a last one
 abbrev pub Joins : ℕ → List Sent → ℕ → Type 0

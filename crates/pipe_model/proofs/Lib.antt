@@ -9,3 +9,5 @@ pub mod Quiet
 pub mod Near
 pub mod Joins
 pub mod Whole
+pub mod Spelling
+pub mod Carried

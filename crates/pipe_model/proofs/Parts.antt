@@ -5,7 +5,7 @@ use Rattle.smc_num.specs.declared.Side.TheVariants.{A, B}
 use Rattle.smc_num.specs.Names.{other}
 use Rattle.pipe_model.specs.Ends.{Half, fresh}
 use Rattle.pipe_model.specs.Calls.{Call, Writes, Reads, Finishes, Closes, Aborts, Awaits, Moves, calls}
-use Rattle.pipe_model.specs.Pipe.{Terms, Item, Fate, GroupEnd, Up, Calls, Lands, Completes, Pipe, half, pipe, step, apply}
+use Rattle.pipe_model.specs.Pipe.{Terms, Item, Fate, GroupEnd, Up, Calls, Lands, Completes, Pipe, half, pipe, apply}
 use Rattle.pipe_model.specs.Parts.{actor, CanFollow, IsFeasible}
 use Rattle.pipe_model.proofs.Sound.{Way, Both, settled}
 use Rattle.pipe_model.proofs.Items.{kept-fate, kept-end, kept-up, kept-write, kept-read, kept-finish, kept-close, kept-abort, kept-move, kept-landing, kept-completion}

@@ -1,6 +1,6 @@
 -- Behind the last snapshot that an end tells, closed or aborted, no message of it carries bytes.
-use Rattle.std.proofs.Common.{◌≡◌, ◌∙◌, ℕ, ◌+◌, ◌<◌, ◌≤◌, ◌==◌, ◌⊎◌, inl, inr, min, max, Bool, true, false, List, [], ◌∷◌, ◌++◌, length, take, drop, refl, ap, sym, subst, arith, if◌then◌else◌, ◌||◌, ◌&&◌, true≢false}
-use Rattle.std.specs.Prelude.{Option, Some, None, is_some}
+use Rattle.std.proofs.Common.{◌≡◌, ◌∙◌, ℕ, ◌+◌, ◌<◌, ◌≤◌, ◌==◌, ◌⊎◌, inl, inr, min, max, Bool, true, false, List, [], ◌∷◌, ◌++◌, length, take, drop, refl, ap, sym, subst, arith, if◌then◌else◌, ◌||◌, true≢false}
+use Rattle.std.specs.Prelude.{Some, is_some}
 use Rattle.std.proofs.lemmas.Bool.{eqb-true}
 use Rattle.std.proofs.lemmas.List.{drop-append-le}
 use Rattle.std.proofs.Math.Seq.{drop-append_seam}
@@ -15,11 +15,11 @@ use Rattle.pipe_model.specs.declared.reply.ResetCause.{ResetCause}
 use Rattle.pipe_model.specs.declared.reply.ResetCause.TheVariants.{PeerAbort, Gap}
 use Rattle.pipe_model.specs.declared.snapshot.Snapshot.{Snapshot}
 use Rattle.pipe_model.specs.Snapshot.{is_last, shows_gap}
-use Rattle.pipe_model.specs.Closing.{Phase, Open, Finished, Closing, ClosePosted, CloseDone, Resetting, AbortPosted, AbortDone, GroupGone, cause_of, is_closing, is_finished, after_finish, after_close, after_abort, struck, ended_with, after_posting, after_completing, after_moving}
-use Rattle.pipe_model.specs.Ends.{Half, Sent, fresh, settle, is_due, is_over, is_due_for_move, meets_fate, loses_group, comes_up, moves, takes, takes_snapshot, validates, strikes, lands, completes, counts_completed, check, lowest_link, present, batch, posts_batch, window, unread, to_land, to_complete}
+use Rattle.pipe_model.specs.Closing.{Phase, Open, Finished, Closing, ClosePosted, CloseDone, Resetting, AbortPosted, AbortDone, cause_of, is_closing, is_finished, after_finish, after_close, after_abort, struck, ended_with, after_posting, after_completing, after_moving}
+use Rattle.pipe_model.specs.Ends.{Half, Sent, fresh, settle, is_due, is_over, is_due_for_move, meets_fate, loses_group, moves, takes, takes_snapshot, validates, strikes, lands, completes, counts_completed, check, lowest_link, present, batch, posts_batch, window, unread, to_land, to_complete}
 use Rattle.pipe_model.specs.Calls.{Call, Writes, Reads, Finishes, Closes, Aborts, Awaits, Moves, calls, is_ended}
 use Rattle.pipe_model.specs.Pipe.{Pipe, Terms, Item, Fate, GroupEnd, Up, Calls, Lands, Completes, half, pipe, apply}
-use Rattle.pipe_model.specs.Parts.{actor, CanFollow, IsFeasible, CarriesNone, CarryNone}
+use Rattle.pipe_model.specs.Parts.{actor, CanFollow, IsFeasible, EachOf, CarriesNone, EndsWithLast}
 use Rattle.pipe_model.proofs.Chains.{next-of}
 use Rattle.pipe_model.proofs.Sound.{Both}
 use Rattle.pipe_model.proofs.Items.{lt-or, next-completes}
@@ -38,13 +38,13 @@ has_last (m ∷ ms) = is_last m.snapshot || has_last ms
 -- that no message behind such a one carries bytes
 abbrev pub QuietBehind : List Sent → Type 0
 QuietBehind [] = Unit {0}
-QuietBehind (m ∷ ms) = (is_last m.snapshot ≡ true → CarryNone ms) × QuietBehind ms
+QuietBehind (m ∷ ms) = (is_last m.snapshot ≡ true → EachOf CarriesNone ms) × QuietBehind ms
 
 -- the messages of an end that are to land, and what its peer has taken
 pub record Quiet (queue : List Sent) (peer_taken : Snapshot) (fin out : ℕ) (phase : Phase) : Type 0 where
   pub behind : QuietBehind queue
   pub posted : has_last queue ≡ true → IsSpent fin out phase
-  pub taken : is_last peer_taken ≡ true → CarryNone queue × IsSpent fin out phase
+  pub taken : is_last peer_taken ≡ true → EachOf CarriesNone queue × IsSpent fin out phase
 
 abbrev pub QuietOf : Half → Half → Type 0
 QuietOf h k = Quiet (to_land h) k.taken h.fin.told (length h.out) h.phase
@@ -114,7 +114,7 @@ either-peer h k1 k2 true x y = x
 either-peer h k1 k2 false x y = y
 
 -- posting
-none-append : (ms : List Sent) (m : Sent) → CarryNone ms → CarriesNone m → CarryNone (ms ++ m ∷ [])
+none-append : (ms : List Sent) (m : Sent) → EachOf CarriesNone ms → CarriesNone m → EachOf CarriesNone (ms ++ m ∷ [])
 none-append [] m c d = (d, tt)
 none-append (k ∷ ms) m c d = (c.0, none-append ms m c.1 d)
 
@@ -140,6 +140,7 @@ last-append (k ∷ ms) m e = split (or-cases (is_last k.snapshot) (has_last (ms 
     later : (has_last ms ≡ true) ⊎ (is_last m.snapshot ≡ true) → ((is_last k.snapshot || has_last ms) ≡ true) ⊎ (is_last m.snapshot ≡ true)
     later (inl f) = inl (or-right (is_last k.snapshot) (has_last ms) f)
     later (inr f) = inr f
+
     split : (is_last k.snapshot ≡ true) ⊎ (has_last (ms ++ m ∷ []) ≡ true) → (has_last (ms ++ m ∷ []) ≡ true → (has_last ms ≡ true) ⊎ (is_last m.snapshot ≡ true)) → ((is_last k.snapshot || has_last ms) ≡ true) ⊎ (is_last m.snapshot ≡ true)
     split (inl f) g = inl (ap (λ b. b || has_last ms) f)
     split (inr f) g = later (g f)
@@ -212,6 +213,7 @@ moves-quiet h k q =
   where
     d : drop (length h.sent) (h.sent ++ check h ∷ []) ≡ check h ∷ []
     d = drop-append_seam h.sent (check h ∷ [])
+
     new : Quiet (check h ∷ []) k.taken h.fin.told (length h.out) (after_moving h.phase)
     new = record {
       behind = (λ _. tt, tt);
@@ -344,5 +346,5 @@ all-quiet t (item ∷ items) f =
     settled t.size t.depth (apply t.size item (pipe t items)).a (apply t.size item (pipe t items)).b (both-after t A item items f) (seen-from (actor item) A (apply t.size item (pipe t items)) k)
 
 -- behind the last snapshot that its peer has taken, no message of an end carries bytes
-pub no-bytes-come : (t : Terms) (x : Side) (items : List Item) → IsFeasible t items → is_last (half (other x) (pipe t items)).taken ≡ true → CarryNone (to_land (half x (pipe t items)))
-no-bytes-come t x items f e = let q = seen-from A x (pipe t items) (all-quiet t items f) in let r = q.0 in let c = r.taken e in c.0
+pub ends-with-last : (t : Terms) (x : Side) (items : List Item) → IsFeasible t items → EndsWithLast (half x (pipe t items)) (half (other x) (pipe t items))
+ends-with-last t x items f e = let q = seen-from A x (pipe t items) (all-quiet t items f) in let r = q.0 in let c = r.taken e in c.0

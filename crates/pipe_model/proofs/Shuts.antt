@@ -303,3 +303,6 @@ last-shut h s e = by (or-cases h.fin.closed h.fin.aborted e)
 
 pub over-shut : (h : Half) → ShutOf h → is_over h ≡ true → is_shut h.phase ≡ true
 over-shut h s e = let p = and-parts (is_last h.fin) (is_last h.taken) e in last-shut h s p.0
+
+pub ends-shut : (t : Terms) (x : Side) (items : List Item) → IsFeasible t items → is_over (half x (pipe t items)) ≡ true → is_shut (half x (pipe t items)).phase ≡ true
+ends-shut t x items f e = over-shut (half x (pipe t items)) (shut-of t x items f) e

@@ -1,6 +1,6 @@
 -- The bytes that an open end was told have landed without a hole, where all validation messages were near.
-use Rattle.std.proofs.Common.{◌≡◌, ◌∙◌, ℕ, ◌+◌, ◌==◌, ◌<◌, ◌≤◌, ◌⊎◌, inl, inr, min, max, nat_lt, Bool, true, false, not, List, [], ◌∷◌, ◌++◌, length, take, drop, refl, ap, sym, subst, arith, if◌then◌else◌, ◌||◌, ◌&&◌, true≢false, ltb-true, ltb-false}
-use Rattle.std.specs.Prelude.{Option, Some, None, is_some}
+use Rattle.std.proofs.Common.{◌≡◌, ◌∙◌, ℕ, ◌+◌, ◌==◌, ◌<◌, ◌≤◌, ◌⊎◌, inl, inr, min, max, nat_lt, Bool, true, false, not, List, [], ◌∷◌, ◌++◌, length, take, drop, refl, ap, sym, subst, arith, if◌then◌else◌, ◌||◌, ◌&&◌, true≢false, ltb-true}
+use Rattle.std.specs.Prelude.{Some, is_some}
 use Rattle.std.proofs.lemmas.List.{drop-append-le}
 use Rattle.std.proofs.Math.Seq.{drop-append_seam}
 use Rattle.smc_num.specs.declared.Side.{Side}
@@ -13,11 +13,11 @@ use Rattle.smc_num.specs.Numbers.{wire_number}
 use Rattle.pipe_model.specs.declared.reply.ResetCause.TheVariants.{PeerAbort, Gap}
 use Rattle.pipe_model.specs.declared.snapshot.Snapshot.{Snapshot}
 use Rattle.pipe_model.specs.Snapshot.{shows_gap, is_near}
-use Rattle.pipe_model.specs.Closing.{Phase, cause_of, struck, ended_with, after_finish, after_close, after_abort, after_posting, after_completing, after_moving}
-use Rattle.pipe_model.specs.Ends.{Half, Sent, fresh, settle, is_due, is_over, is_due_for_move, meets_fate, loses_group, moves, takes, takes_snapshot, validates, strikes, lands, completes, counts_completed, check, lowest_link, present, batch, posts_batch, window, unread, to_land, to_complete}
+use Rattle.pipe_model.specs.Closing.{Phase, cause_of, ended_with, after_finish, after_close, after_abort, after_posting, after_completing, after_moving}
+use Rattle.pipe_model.specs.Ends.{Half, Sent, fresh, settle, is_due, is_over, is_due_for_move, meets_fate, loses_group, takes, takes_snapshot, validates, strikes, lands, completes, counts_completed, check, lowest_link, present, batch, posts_batch, window, unread, to_land, to_complete}
 use Rattle.pipe_model.specs.Calls.{Call, Writes, Reads, Finishes, Closes, Aborts, Awaits, Moves, calls, is_ended}
 use Rattle.pipe_model.specs.Pipe.{Pipe, Terms, Item, Fate, GroupEnd, Up, Calls, Lands, Completes, half, pipe, apply, is_near_at, lands_near, is_near_part}
-use Rattle.pipe_model.specs.Parts.{actor, CanFollow, IsFeasible, broken_after, is_broken, covered_after, covered, is_shut, Climbs, snapshots, MayTake}
+use Rattle.pipe_model.specs.Parts.{actor, CanFollow, IsFeasible, broken_after, is_broken, covered_after, covered, is_shut, Climbs, snapshots, MayTake, HasAllTold, GoesOn}
 use Rattle.pipe_model.proofs.Chains.{next-of, rest-of}
 use Rattle.pipe_model.proofs.Sound.{Both}
 use Rattle.pipe_model.proofs.Items.{lt-or, next-completes}
@@ -25,7 +25,7 @@ use Rattle.pipe_model.proofs.Parts.{BothOf, both, both-after}
 use Rattle.pipe_model.proofs.Facts.{may-take}
 use Rattle.pipe_model.proofs.Shuts.{ShutOf, shut-of, over-shut, and-parts, or-right, finish-shut, close-shut, abort-shut, struck-shut, ended-shut, posting-shut, completing-shut, moving-shut}
 use Rattle.pipe_model.proofs.Near.{no-gap}
-use Rattle.pipe_model.proofs.Joins.{Joins, JoinsChecked, Comes, Behind, comes-append, comes-snapshot, comes-check, behind-append, behind-first, behind-rest, climbs-behind, in-flight}
+use Rattle.pipe_model.proofs.Joins.{Comes, Behind, comes-append, comes-snapshot, comes-check, behind-append, behind-first, behind-rest, climbs-behind, in-flight}
 
 -- of an end that sends and its peer: the bytes that have landed, and the messages that are to land
 pub record Whole (broken : Bool) (covered : ℕ) (queue : List Sent) (last : ℕ) (fin : Snapshot) (flight : List Snapshot) (peer_phase : Phase) (peer_taken : Snapshot) : Type 0 where
@@ -82,8 +82,11 @@ posted size depth b c h k both w =
     by : drop h.landed (h.sent ++ batch h ∷ []) ≡ drop h.landed h.sent ++ batch h ∷ [] → (is_shut k.phase ≡ true) ⊎ ((c ≡ k.taken.told) × ((b ≡ true) ⊎ Comes k.taken (to_land h) h.last.told)) → (is_shut k.phase ≡ true) ⊎ ((c ≡ k.taken.told) × ((b ≡ true) ⊎ Comes k.taken (to_land (posts_batch h)) (present h).told))
     by d (inl e) = inl e
     by d (inr (e, inl g)) = inr (e, inl g)
-    by d (inr (e, inr g)) = inr (e, inr (subst (λ ms. Comes k.taken ms (present h).told) (sym d)
-        (comes-append k.taken h.last.told (to_land h) (batch h) refl (from-by (is_some (cause_of h.phase)) (present h).told h.last.told) g)))
+    by d (inr (e, inr g)) = inr (
+      e,
+      inr (subst (λ ms. Comes k.taken ms (present h).told) (sym d)
+          (comes-append k.taken h.last.told (to_land h) (batch h) refl (from-by (is_some (cause_of h.phase)) (present h).told h.last.told) g)),
+    )
 
 settled : (size depth : ℕ) (b : Bool) (c : ℕ) (d : Bool) (e : ℕ) (h k : Half) → Both size depth h k → WholeBoth b c d e h k → WholeBoth b c d e (settle depth h) (settle depth k)
 settled size depth b c d e h k both w =
@@ -94,6 +97,7 @@ settled size depth b c d e h k both w =
   where
     theirs : WholeOf d e (posts_batch k) h
     theirs = posted size depth d e k h (both.1, both.0) w.1
+
     by : (i : Bool) → WholeOf d e (posts_batch k) (if i then posts_batch h else h)
     by true = reshut d e (posts_batch k) h (after_posting (present h) h.phase) (posting-shut (present h) h.phase) theirs
     by false = theirs
@@ -105,10 +109,13 @@ moved-whole b b2 c h k w = record { behind = behind-first k.taken h.fin h.flight
   where
     d : drop (length h.sent) (h.sent ++ check h ∷ []) ≡ check h ∷ []
     d = drop-append_seam h.sent (check h ∷ [])
+
     checked : Comes k.taken (check h ∷ []) h.fin.told
     checked = inr (refl, behind-first k.taken h.fin h.flight w.behind, omega arith)
+
     new : Comes k.taken (drop (length h.sent) (h.sent ++ check h ∷ [])) h.fin.told
     new = subst (λ ms. Comes k.taken ms h.fin.told) (sym d) checked
+
     by : (is_shut k.phase ≡ true) ⊎ ((c ≡ k.taken.told) × ((b ≡ true) ⊎ Comes k.taken (to_land h) h.last.told)) → (is_shut k.phase ≡ true) ⊎ ((c ≡ k.taken.told) × ((b2 ≡ true) ⊎ Comes k.taken (drop (length h.sent) (h.sent ++ check h ∷ [])) h.fin.told))
     by (inl e) = inl e
     by (inr e) = inr (e.0, inr new)
@@ -149,6 +156,7 @@ counted-by b c h k (inr l) o w = record { behind = w.behind; comes = by w.comes 
   where
     same : h.completed ≡ h.landed
     same = omega (arith, l, o)
+
     by : (is_shut k.phase ≡ true) ⊎ ((c ≡ k.taken.told) × ((b ≡ true) ⊎ Comes k.taken (to_land h) h.last.told)) → (is_shut k.phase ≡ true) ⊎ ((c ≡ k.taken.told) × (((b || (h.completed == h.landed)) ≡ true) ⊎ Comes k.taken (to_land (counts_completed h)) h.last.told))
     by (inl e) = inl e
     by (inr e) = inr (e.0, inl (or-right b (h.completed == h.landed) (number-same h.completed h.landed same)))
@@ -247,7 +255,7 @@ lands-whole size depth b c d e h k more f near both s w =
     let next = next-of h.landed h.sent more in
     let first : head (to_land h) ≡ Some next.0 = ap (λ ms. head ms) next.1 in
     let mine : Whole false c (next.0 ∷ drop (h.landed + 1) h.sent) h.last.told h.fin h.flight k.phase k.taken =
-        subst (λ ms. Whole false c ms h.last.told h.fin h.flight k.phase k.taken) next.1 (subst (λ i. WholeOf i c h k) f w.0) in
+    subst (λ ms. Whole false c ms h.last.told h.fin h.flight k.phase k.taken) next.1 (subst (λ i. WholeOf i c h k) f w.0) in
     subst (λ i. WholeBoth i (covered_after (head (to_land h)) c) d e (lands h) (takes (head (to_land h)) k)) (sym f)
     (subst (λ o. WholeBoth false (covered_after o c) d e (lands h) (takes o k)) (sym first)
     (lands-by size depth c d e h k next.0 (is_over k) next.0.check refl refl (subst (λ o. is_near_at o k ≡ true) first near) next.1 both s mine w.1))
@@ -304,7 +312,7 @@ told-of b c h k s w = by w.comes
     by (inl e) = absurd (true≢false (sym e ∙ s))
     by (inr e) = e.0
 
-pub told-landed : (t : Terms) (x : Side) (items : List Item) → IsFeasible t items → is_near_part t items ≡ true → is_shut (half (other x) (pipe t items)).phase ≡ false → covered t x items ≡ (half (other x) (pipe t items)).taken.told
+pub told-landed : (t : Terms) (x : Side) (items : List Item) → IsFeasible t items → is_near_part t items ≡ true → HasAllTold (covered t x items) (half (other x) (pipe t items))
 told-landed t x items f n s = told-of (is_broken t x items) (covered t x items) (half x (pipe t items)) (half (other x) (pipe t items)) s (whole t x items f n)
 
 -- the bytes of the snapshot that is next to land go on from there
@@ -316,8 +324,8 @@ joins-by b c h k m s o d e w = by w.comes
     by (inr (i, inl j)) = absurd (true≢false (sym j ∙ o))
     by (inr (i, inr j)) = let r = comes-snapshot k.taken h.last.told m (drop (h.landed + 1) h.sent) e (subst (λ ms. Comes k.taken ms h.last.told) d j) in r.0
 
-pub next-joins : (t : Terms) (x : Side) (items : List Item) (m : Sent) → IsFeasible t (Lands x ∷ items) → is_near_part t items ≡ true → is_shut (half (other x) (pipe t items)).phase ≡ false →
-    head (to_land (half x (pipe t items))) ≡ Some m → m.check ≡ false → (m.snapshot.aborted ≡ true) ⊎ (m.from ≤ (half (other x) (pipe t items)).taken.told)
-next-joins t x items m f n s e g =
+pub next-joins : (t : Terms) (x : Side) (items : List Item) (m : Sent) → IsFeasible t (Lands x ∷ items) → is_near_part t items ≡ true →
+    head (to_land (half x (pipe t items))) ≡ Some m → m.check ≡ false → GoesOn m (half (other x) (pipe t items))
+next-joins t x items m f n e g s =
     let c = f.0 in
     joins-by (is_broken t x items) (covered t x items) (half x (pipe t items)) (half (other x) (pipe t items)) m s c.1 (rest-of (half x (pipe t items)).landed (half x (pipe t items)).sent m e) g (whole t x items f.1 n)

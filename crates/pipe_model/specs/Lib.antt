@@ -6,4 +6,5 @@ pub mod Parts
 pub mod Pipe
 pub mod Settings
 pub mod Snapshot
+pub mod Spelling
 pub mod Words

@@ -5,6 +5,7 @@ use Rattle.std.specs.Prelude.{◌≡◌, ℕ, ◌+◌, ◌==◌, ◌<◌, ◌≤
 use Rattle.smc_num.specs.declared.Side.{Side}
 use Rattle.smc_num.specs.Names.{same_side, head}
 use Rattle.pipe_model.specs.declared.snapshot.Snapshot.{Snapshot}
+use Rattle.pipe_model.specs.Snapshot.{is_last}
 use Rattle.pipe_model.specs.Closing.{Phase, cause_of, is_closing}
 use Rattle.pipe_model.specs.Ends.{Half, Sent, is_due, is_due_for_move, to_land, to_complete}
 use Rattle.pipe_model.specs.Calls.{Moves}
@@ -53,6 +54,7 @@ pub record IsCounted (size : ℕ) (x y : Half) : Type 0 where
   pub taken_fits : y.taken.told ≤ y.rd + size
   pub accepted_fits : length x.out ≤ y.rd + size
   pub read : y.rd ≤ length x.out
+  pub read_told : (y.taken.aborted ≡ true) ⊎ (y.rd ≤ y.taken.told)
   pub read_taken : x.taken.read ≤ y.rd
   pub completed_number : x.fin.number ≤ x.last.number
   pub last_number : x.last.number ≤ x.number
@@ -117,14 +119,27 @@ is_shut phase = is_some (cause_of phase) || is_closing phase
 abbrev pub ReadsTold : Half → Type 0
 ReadsTold h = is_shut h.phase ≡ false → h.rd ≤ h.taken.told
 
+-- that something holds of each of the messages
+abbrev pub EachOf : (Sent → Type 0) → List Sent → Type 0
+EachOf P [] = Unit {0}
+EachOf P (m ∷ ms) = P m × EachOf P ms
+
 -- that a message carries no bytes
 abbrev pub CarriesNone : Sent → Type 0
 CarriesNone m = m.from ≡ m.snapshot.told
 
--- that none of them carries bytes
-abbrev pub CarryNone : List Sent → Type 0
-CarryNone [] = Unit {0}
-CarryNone (m ∷ ms) = CarriesNone m × CarryNone ms
+-- that a message carries bytes of those that its end accepted, no more than an element holds; a validation message and an
+-- aborted snapshot carry none
+pub record CarriesFew (size accepted : ℕ) (m : Sent) : Type 0 where
+  pub forward : m.from ≤ m.snapshot.told
+  pub few : m.snapshot.told ≤ m.from + size
+  pub within : m.snapshot.told ≤ accepted
+  pub check : m.check ≡ true → CarriesNone m
+  pub aborted : m.snapshot.aborted ≡ true → CarriesNone m
+
+-- that once y has taken the last snapshot of x, closed or aborted, no message of x under way to it carries bytes
+abbrev pub EndsWithLast : Half → Half → Type 0
+EndsWithLast x y = is_last y.taken ≡ true → EachOf CarriesNone (to_land x)
 
 -- how far an end's bytes have landed without a hole, where they had come so far before a message
 abbrev pub covered_after : Option Sent → ℕ → ℕ
@@ -136,3 +151,11 @@ abbrev pub covered : Terms → Side → List Item → ℕ
 covered t x [] = 0
 covered t x (Lands y ∷ items) = if same_side x y then covered_after (head (to_land (half x (pipe t items)))) (covered t x items) else covered t x items
 covered t x (item ∷ items) = covered t x items
+
+-- that an end which still hands out bytes has got all that it was told: so far its peer's bytes have landed without a hole
+abbrev pub HasAllTold : ℕ → Half → Type 0
+HasAllTold landed y = is_shut y.phase ≡ false → landed ≡ y.taken.told
+
+-- that the bytes of a snapshot go on where those that y was told end, or begin among them; an aborted one carries none
+abbrev pub GoesOn : Sent → Half → Type 0
+GoesOn m y = is_shut y.phase ≡ false → (m.snapshot.aborted ≡ true) ⊎ (m.from ≤ y.taken.told)

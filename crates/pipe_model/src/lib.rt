@@ -26,9 +26,11 @@ pub use event::{End, Event};
 pub use flow::{FlowStep, KeyPhase, LinkView};
 pub use llc_wire::{KeyToken, LlcMessage, NewKey};
 pub use pipe_laws::{
-    closed_is_told_behind_all_bytes, counts_fit, marks_fit, nothing_is_due,
-    reads_stay_behind_what_was_told, the_flight_is_what_has_not_completed,
-    the_next_snapshot_may_be_taken, the_oldest_snapshot_completes,
+    an_end_that_is_over_is_shut, closed_is_told_behind_all_bytes, counts_fit, marks_fit,
+    messages_carry_few_bytes, no_bytes_follow_the_last_snapshot, nothing_is_due, reads_back,
+    reads_stay_behind_what_was_told, the_flight_is_what_has_not_completed, the_next_bytes_go_on,
+    the_next_snapshot_is_within_the_distances, the_next_snapshot_may_be_taken,
+    the_oldest_snapshot_completes, told_bytes_have_landed, what_shows_no_gap_was_taken,
 };
 pub use post::{Placed, Post, PostRef, Posts};
 pub use reply::{Hold, Lack, Reply, ResetCause, SentKind};
