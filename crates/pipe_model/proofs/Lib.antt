@@ -11,3 +11,4 @@ pub mod Joins
 pub mod Whole
 pub mod Spelling
 pub mod Carried
+mod PartExamples
