@@ -7,3 +7,17 @@ mod KeyIsAskedAgain
 mod RawClientIsAccepted
 mod FaultyBytesStay
 mod LawfulSteps
+pub mod Chains
+pub mod Facts
+pub mod Items
+pub mod Parts
+pub mod Settled
+pub mod Sound
+pub mod Shuts
+pub mod Quiet
+pub mod Near
+pub mod Joins
+pub mod Whole
+pub mod Spelling
+pub mod Carried
+mod PartExamples

@@ -14,10 +14,12 @@ pub mod Keys
 pub mod Lawful
 pub mod Lending
 pub mod Messages
+pub mod Parts
 pub mod Pipe
 pub mod Posts
 pub mod Replies
 pub mod Settings
 pub mod Snapshot
 pub mod Wires
+pub mod Spelling
 pub mod Words

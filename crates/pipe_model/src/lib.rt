@@ -14,6 +14,7 @@ mod entry;
 mod event;
 mod flow;
 mod laws;
+mod pipe_laws;
 mod post;
 mod reply;
 mod sent;
@@ -31,6 +32,13 @@ pub use laws::{
     calls_are_told_by_the_pipe, each_entry_is_a_lawful_step, equal_parts_are_told_the_same,
 };
 pub use llc_wire::{KeyToken, LlcMessage, NewKey};
+pub use pipe_laws::{
+    an_end_that_is_over_is_shut, closed_is_told_behind_all_bytes, counts_fit, marks_fit,
+    messages_carry_few_bytes, no_bytes_follow_the_last_snapshot, nothing_is_due, reads_back,
+    reads_stay_behind_what_was_told, the_flight_is_what_has_not_completed, the_next_bytes_go_on,
+    the_next_snapshot_is_within_the_distances, the_next_snapshot_may_be_taken,
+    the_oldest_snapshot_completes, told_bytes_have_landed, what_shows_no_gap_was_taken,
+};
 pub use post::{Placed, Post, PostRef, Posts};
 pub use reply::{Hold, Lack, Reply, ResetCause, SentKind};
 pub use sent::Sent;

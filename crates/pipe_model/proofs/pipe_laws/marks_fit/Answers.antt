@@ -1,0 +1,5 @@
+use Rattle.pipe_model.proofs.Facts.{is-marked}
+use Rattle.pipe_model.proofs.pipe_laws.marks_fit.Goals as goal
+
+pub returns : goal.returns
+returns c = is-marked

@@ -1,0 +1,5 @@
+use Rattle.pipe_model.proofs.Settled.{nothing-due}
+use Rattle.pipe_model.proofs.pipe_laws.nothing_is_due.Goals as goal
+
+pub returns : goal.returns
+returns c = nothing-due

@@ -1,0 +1,5 @@
+use Rattle.pipe_model.proofs.Facts.{completes-well}
+use Rattle.pipe_model.proofs.pipe_laws.the_oldest_snapshot_completes.Goals as goal
+
+pub returns : goal.returns
+returns c = completes-well

@@ -1,0 +1,5 @@
+use Rattle.pipe_model.proofs.Whole.{told-landed}
+use Rattle.pipe_model.proofs.pipe_laws.told_bytes_have_landed.Goals as goal
+
+pub returns : goal.returns
+returns c = told-landed
