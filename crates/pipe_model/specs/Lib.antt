@@ -15,6 +15,7 @@ pub mod Lawful
 pub mod Lending
 pub mod Messages
 pub mod Pipe
+pub mod Plain
 pub mod Posts
 pub mod Replies
 pub mod Settings

@@ -14,6 +14,7 @@ mod entry;
 mod event;
 mod flow;
 mod laws;
+mod plain;
 mod post;
 mod reply;
 mod sent;
@@ -31,6 +32,7 @@ pub use laws::{
     calls_are_told_by_the_pipe, each_entry_is_a_lawful_step, equal_parts_are_told_the_same,
 };
 pub use llc_wire::{KeyToken, LlcMessage, NewKey};
+pub use plain::{PlainCall, PlainEnd, PlainTold};
 pub use post::{Placed, Post, PostRef, Posts};
 pub use reply::{Hold, Lack, Reply, ResetCause, SentKind};
 pub use sent::Sent;
