@@ -32,7 +32,7 @@ pub use laws::{
     calls_are_told_by_the_pipe, each_entry_is_a_lawful_step, equal_parts_are_told_the_same,
 };
 pub use llc_wire::{KeyToken, LlcMessage, NewKey};
-pub use plain::{PlainCall, PlainEnd, PlainTold};
+pub use plain::{PlainCall, PlainEnd, PlainPipe, PlainTold};
 pub use post::{Placed, Post, PostRef, Posts};
 pub use reply::{Hold, Lack, Reply, ResetCause, SentKind};
 pub use sent::Sent;

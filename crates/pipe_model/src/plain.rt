@@ -12,6 +12,8 @@ mod end;
 mod links;
 mod lists;
 mod news;
+mod pipe;
 
 pub use asked::{PlainCall, PlainTold};
 pub use end::PlainEnd;
+pub use pipe::PlainPipe;

@@ -117,7 +117,7 @@ impl PlainEnd {
 
     /// Moves to another link: what has not completed is left behind, and it goes on from the last
     /// completed snapshot.
-    pub fn make_move(&mut self) -> Result<(), AllocError>
+    pub fn change_link(&mut self) -> Result<(), AllocError>
         ensures { OnOk result (self.new ≡ moves self.old) }
     {
         if self.is_due_for_move() {
@@ -135,7 +135,7 @@ impl PlainEnd {
     }
 
     /// What the call does.
-    pub fn make(&mut self, size: u32, call: PlainCall<'_>) -> Result<(), AllocError>
+    pub fn call(&mut self, size: u32, call: PlainCall<'_>) -> Result<(), AllocError>
         ensures { OnOk result (self.new ≡ calls size (call_of call.entry) self.old) }
     {
         match call {
@@ -145,7 +145,7 @@ impl PlainEnd {
             PlainCall::Close => self.close(),
             PlainCall::Abort => self.abort(),
             PlainCall::Await => {}
-            PlainCall::Move => return self.make_move(),
+            PlainCall::Move => return self.change_link(),
         }
         Ok(())
     }

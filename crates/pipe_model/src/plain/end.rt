@@ -42,7 +42,9 @@ pub struct PlainEnd {
 }
 
 impl Model for PlainEnd {
+    ghost use Rattle.std.specs.Prelude.{length};
     ghost use Rattle.pipe_model.specs.Ends.{Half};
+    ghost use Rattle.pipe_model.specs.Counted.{IsCounted};
 
     ghost Value = { Half };
 
@@ -51,6 +53,8 @@ impl Model for PlainEnd {
         taken = e.taken; fin = e.fin; last = e.last; number = e.number; flight = e.flight.items;
         phase = e.phase; finished = e.finished; sent = e.sent.items; landed = e.landed; completed = e.completed
     } };
+
+    ghost invariant = { λ e. IsCounted (length e.sent.items) e.number e.landed };
 }
 
 /// What counts as told and taken before anything was.
@@ -112,6 +116,20 @@ impl PlainEnd {
         }
     }
 
+    /// All bytes that it accepted.
+    pub fn accepted(&self) -> &[u8]
+        ensures { result.now ≡ self.now.out }
+    {
+        self.out.as_slice()
+    }
+
+    /// All messages that it posted, the first one first.
+    pub fn sent(&self) -> &[Sent]
+        ensures { result.now ≡ self.now.sent }
+    {
+        self.sent.as_slice()
+    }
+
     /// How many bytes more it may accept, with elements of `size` bytes.
     pub fn window(&self, size: u32) -> u64
         ensures { result ≡ window size self.now }
@@ -137,7 +155,6 @@ impl PlainEnd {
 
     /// What it would tell now.
     pub fn present(&self) -> Snapshot
-        requires { self.now.number < 2 ^ 60 }
         ensures { result ≡ present self.now }
     {
         let reset = cause(self.phase).is_some();
@@ -155,7 +172,6 @@ impl PlainEnd {
     /// Whether it has something new to tell, and may tell it now; at most `depth` snapshots may be
     /// uncompleted.
     pub fn is_due(&self, depth: u8) -> bool
-        requires { self.now.number < 2 ^ 60 }
         ensures { result ≡ is_due depth self.now }
     {
         (self.up && !group_gone(self.phase))
@@ -166,7 +182,6 @@ impl PlainEnd {
 
     /// The message that it posts when it is due.
     fn batch(&self) -> Sent
-        requires { self.now.number < 2 ^ 60 }
         ensures { result ≡ batch self.now }
     {
         let snapshot = self.present();
@@ -184,7 +199,6 @@ impl PlainEnd {
 
     /// Posts what is due.
     pub fn settle(&mut self, depth: u8) -> Result<(), AllocError>
-        requires { self.old.number < 2 ^ 60 }
         ensures { OnOk result (self.new ≡ settle depth self.old) }
     {
         if self.is_due(depth) {

@@ -1,5 +1,5 @@
 //! Parts of lists, cut off where the list ends.
-ghost use Rattle.std.specs.Prelude.{◌≡◌, take, drop};
+ghost use Rattle.std.specs.Prelude.{◌≡◌, ◌<◌, ◌↔◌, IsSome, take, drop, length};
 ghost use Rattle.smc_num.specs.Names.{head};
 ghost use Rattle.pipe_model.specs.Words.{is_nil};
 
@@ -39,7 +39,8 @@ pub(super) fn behind(bytes: &[u8], count: u64) -> &[u8]
 
 /// The message behind the first `count`, where there is one.
 pub(super) fn next(sent: &[Sent], count: usize) -> Option<Sent>
-    ensures { result ≡ head (drop count sent.now) }
+    ensures message { result ≡ head (drop count sent.now) }
+    ensures any { IsSome result ↔ (count < length sent.now) }
 {
     if count < sent.len() {
         Some(sent[count])

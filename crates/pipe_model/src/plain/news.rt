@@ -1,6 +1,6 @@
 //! What happens to an end from outside: it comes up, links of its group become live and dead, its
 //! group ends, and messages land and complete.
-ghost use Rattle.std.specs.Prelude.{◌≡◌, ◌<◌, ◌^◌, OnOk};
+ghost use Rattle.std.specs.Prelude.{◌≡◌, ◌<◌, ◌↔◌, OnOk, IsSome, length};
 ghost use Rattle.smc_num.specs.Names.{head};
 ghost use Rattle.smc_num.specs.Numbers.{wire_number};
 ghost use Rattle.pipe_model.specs.Snapshot.{shows_gap};
@@ -68,21 +68,23 @@ impl PlainEnd {
 
     /// Its oldest message that has not landed.
     pub fn next_to_land(&self) -> Option<Sent>
-        ensures { result ≡ head (to_land self.now) }
+        ensures message { result ≡ head (to_land self.now) }
+        ensures any { IsSome result ↔ (self.now.landed < length self.now.sent) }
     {
         next(&self.sent, self.landed)
     }
 
     /// Its oldest message that has not completed.
     pub fn next_to_complete(&self) -> Option<Sent>
-        ensures { result ≡ head (to_complete self.now) }
+        ensures message { result ≡ head (to_complete self.now) }
+        ensures any { IsSome result ↔ (self.now.completed < length self.now.sent) }
     {
         next(&self.sent, self.completed)
     }
 
     /// Its next message leaves it for the peer.
     pub fn land(&mut self)
-        requires { self.old.landed < 2 ^ 62 }
+        requires { self.old.landed < length self.old.sent }
         ensures { self.new ≡ lands self.old }
     {
         self.landed += 1;
@@ -127,7 +129,7 @@ impl PlainEnd {
 
     /// One message more has completed; one that is swallowed counts as landed too.
     fn count_completed(&mut self)
-        requires { self.old.completed < 2 ^ 62 }
+        requires { self.old.completed < length self.old.sent }
         ensures { self.new ≡ counts_completed self.old }
     {
         self.completed += 1;
@@ -136,7 +138,6 @@ impl PlainEnd {
 
     /// Its oldest uncompleted message completes.
     pub fn complete(&mut self)
-        requires { self.old.completed < 2 ^ 62 }
         ensures { self.new ≡ completes (head (to_complete self.old)) self.old }
     {
         if let Some(m) = self.next_to_complete() {
