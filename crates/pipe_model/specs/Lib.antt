@@ -2,6 +2,7 @@ pub mod Calls
 pub mod Causes
 pub mod Closing
 pub mod Connections
+pub mod Counted
 pub mod Ends
 pub mod Fabric
 pub mod Fallback
@@ -16,6 +17,7 @@ pub mod Lending
 pub mod Messages
 pub mod Parts
 pub mod Pipe
+pub mod Plain
 pub mod Posts
 pub mod Replies
 pub mod Settings

@@ -15,6 +15,7 @@ mod event;
 mod flow;
 mod laws;
 mod pipe_laws;
+mod plain;
 mod post;
 mod reply;
 mod sent;
@@ -39,6 +40,7 @@ pub use pipe_laws::{
     the_next_snapshot_is_within_the_distances, the_next_snapshot_may_be_taken,
     the_oldest_snapshot_completes, told_bytes_have_landed, what_shows_no_gap_was_taken,
 };
+pub use plain::{PlainCall, PlainEnd, PlainPipe, PlainTold};
 pub use post::{Placed, Post, PostRef, Posts};
 pub use reply::{Hold, Lack, Reply, ResetCause, SentKind};
 pub use sent::Sent;
