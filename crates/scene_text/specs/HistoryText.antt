@@ -1,12 +1,11 @@
 -- The text of a history.
 -- A reader learns here what the program prints: a line an entry and below it one for each of its
 -- posts, a line a socket, and how it ended.
-use Rattle.std.specs.Prelude.{ℕ, zero, suc, ◌+◌, ◌==◌, ◌&&◌, Bool, true, false, List, [], ◌∷◌, ◌++◌, codes, take, drop, slice_index_or, length, Option, Some, None, if◌then◌else◌}
+use Rattle.std.specs.Prelude.{ℕ, zero, suc, ◌+◌, ◌==◌, ◌&&◌, Bool, true, false, List, [], ◌∷◌, ◌++◌, codes, slice_index_or, length, Option, Some, None, if◌then◌else◌}
 use Rattle.std.specs.List.{flat_map, sum_by, list_any}
 use Rattle.std.specs.Fmt.{decimal}
 use Rattle.smc_num.specs.declared.Side.{Side}
 use Rattle.smc_num.specs.declared.Side.TheVariants.{A, B}
-use Rattle.pipe_model.specs.declared.event.End.{End}
 use Rattle.pipe_model.specs.declared.entry.Entry.{Entry}
 use Rattle.pipe_model.specs.declared.event.Event.{Event}
 use Rattle.pipe_model.specs.declared.event.Event.TheVariants.{Open, Raw, Write, Read, Finish, Close, Abort, Await, Clc, Deliver, Complete, Swallow, Cut, Heal, Report, Move, Grow, Test, Trim}

@@ -60,6 +60,10 @@ cdc_post_text m =
 abbrev pub answer_text : Bool → Bool → List ℕ
 answer_text reply rejected = if rejected then codes " reject" else flag_text (codes " reply") reply
 
+-- a message about a link: its word, whether it is a reply, and the number of the link
+unfoldable pub about_link_text : List ℕ → Bool → ℕ → List ℕ
+about_link_text word reply link = head_text word reply ++ number_field (codes " ") link
+
 -- a key for a new link, behind the one beside which it stands
 abbrev pub new_key_text : NewKey → List ℕ
 new_key_text k = decimal k.reference ++ number_field (codes "=") k.fresh
@@ -72,18 +76,26 @@ abbrev pub token_text : KeyToken → List ℕ
 token_text token = slot_key_text token.number token.key
 
 -- an RMB and its keys: first the one for the slot whose link carries the message, then so many others
-abbrev pub tokens_text : ℕ → ℕ → List KeyToken → List ℕ
+unfoldable pub tokens_text : ℕ → ℕ → List KeyToken → List ℕ
 tokens_text slot others [] = []
 tokens_text slot others (first ∷ more) =
     number_field (codes " ") (rmb_at first.address) ++ (codes " " ++ (slot_key_text slot first.key ++ with_commas token_text (take others more)))
 
+-- a CONFIRM RKEY with its keys
+abbrev pub rkey_text : ℕ → Bool → ℕ → List KeyToken → List ℕ
+rkey_text slot reply others tokens = head_text (codes " confirm rkey") reply ++ tokens_text slot others tokens
+
+-- a CONFIRM RKEY that the link on a slot carries; one that asks for a retry says no more
+abbrev pub confirm_rkey_text : ℕ → Bool → Bool → ℕ → List KeyToken → List ℕ
+confirm_rkey_text slot reply retry others tokens = if retry then codes " confirm rkey retry" else rkey_text slot reply others tokens
+
 -- an LLC message that the link on a slot carries
 abbrev pub llc_post_text : ℕ → LlcMessage → List ℕ
-llc_post_text slot (ConfirmLink reply mac gid qp link user most) = head_text (codes " confirm link") reply ++ number_field (codes " ") link
+llc_post_text slot (ConfirmLink reply mac gid qp link user most) = about_link_text (codes " confirm link") reply link
 llc_post_text slot (AddLink reply rejected reason mac gid qp link mtu psn) = codes " add link" ++ (answer_text reply rejected ++ number_field (codes " ") link)
-llc_post_text slot (AddKeys reply link count keys) = head_text (codes " add keys") reply ++ (number_field (codes " ") link ++ (codes " " ++ listed new_key_text (take count keys)))
-llc_post_text slot (DeleteLink reply all orderly link reason) = head_text (codes " delete link") reply ++ number_field (codes " ") link
-llc_post_text slot (ConfirmRkey reply retry negative others tokens) = if retry then codes " confirm rkey retry" else head_text (codes " confirm rkey") reply ++ tokens_text slot others tokens
+llc_post_text slot (AddKeys reply link count keys) = about_link_text (codes " add keys") reply link ++ (codes " " ++ listed new_key_text (take count keys))
+llc_post_text slot (DeleteLink reply all orderly link reason) = about_link_text (codes " delete link") reply link
+llc_post_text slot (ConfirmRkey reply retry negative others tokens) = confirm_rkey_text slot reply retry others tokens
 llc_post_text slot (TestLink reply bytes) = head_text (codes " test link") reply ++ number_field (codes " ") (big_number 4 bytes)
 llc_post_text slot (DeleteRkey reply negative count mask keys) = head_text (codes " delete rkey") reply ++ (codes " " ++ listed decimal (take count keys))
 

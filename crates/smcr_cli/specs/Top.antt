@@ -4,7 +4,7 @@
 use Rattle.std.specs.Prelude.{◌≡◌, ℕ, nat_lt, Bool, true, false, if◌then◌else◌, List, [], ◌∷◌, ◌++◌, length, codes, ◌⊎◌, Option, Some, None, Result, Ok, Err, take}
 use Rattle.std.specs.Str.{bytes_eq}
 use Rattle.byte_port.specs.Causes.{Grew, IsRead}
-use Rattle.pipe_model.specs.declared.StepFault.{StepFault}
+use Rattle.pipe_model.specs.declared.entry.StepFault.{StepFault}
 use Rattle.scene_text.specs.declared.faults.SceneFault.{SceneFault}
 use Rattle.scene_text.specs.Scenes.{PlainScene}
 use Rattle.scene_text.specs.Grammar.{scene_of}

@@ -5,10 +5,14 @@
 //! for its cause. `main` only hands it the real words, standard input and standard output.
 #![tactic(auto)]
 
+mod fields;
 mod print;
+mod print_posts;
+mod print_replies;
 mod run;
 mod show;
 mod show_text;
+mod spell;
 mod top;
 
 use byte_port::{ReaderSource, WriterSink};
