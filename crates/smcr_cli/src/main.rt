@@ -52,4 +52,6 @@ fn main(rt: HostRuntime) -> ExitCode {
 }
 
 #[cfg(test)]
+mod print_tests;
+#[cfg(test)]
 mod tests;
