@@ -1,7 +1,7 @@
 use Rattle.std.proofs.Common.{◌≡◌, ◌≤◌, ◌+◌, ◌++◌, ◌∷◌, drop}
 use Rattle.scene_text.specs.Spelling.{runs, bytes_text}
 use Rattle.smcr_cli.proofs.RunsOfBytes.{add_run, joined}
-use Rattle.smcr_cli.proofs.print.push_runs.Given as goal
+use Rattle.smcr_cli.proofs.spell.push_runs.Given as goal
 
 abbrev pub invariant-loop-byte : goal.invariant-loop-byte
 invariant-loop-byte l =

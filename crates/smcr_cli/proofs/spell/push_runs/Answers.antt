@@ -1,7 +1,7 @@
 use Rattle.std.proofs.Common.{◌∙◌, ◌++◌, ap, arith, codes}
 use Rattle.smcr_cli.proofs.RunsOfBytes.{next_same, next_other}
-use Rattle.smcr_cli.proofs.print.push_runs.Goals as goal
-use Rattle.smcr_cli.proofs.print.push_runs.Goals.{then-byte-current, else-byte-current+in_ok-push_run+in_ok-push_text}
+use Rattle.smcr_cli.proofs.spell.push_runs.Goals as goal
+use Rattle.smcr_cli.proofs.spell.push_runs.Goals.{then-byte-current, else-byte-current+in_ok-push_run+in_ok-push_text}
 
 pub loop-byte-preserved : goal.loop-byte-preserved
 loop-byte-preserved c =
