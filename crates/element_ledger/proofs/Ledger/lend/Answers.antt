@@ -1,0 +1,16 @@
+use Rattle.std.proofs.Common.{◌≡◌, ◌∙◌, ◌<◌, ◌-◌, ◌^◌, map, Some, sym, ap, subst}
+use Rattle.std.specs.List.{AllByRecursion}
+use Rattle.std.proofs.lemmas.List.Elements.{recursion_from_All}
+use Rattle.element_ledger.specs.Lendings.{Row, first_free, place_of}
+use Rattle.element_ledger.proofs.Changes.{lent_places_kept, free_one}
+use Rattle.element_ledger.proofs.Ledger.lend.Goals as goal
+
+pub next_lending-element-requires : goal.next_lending-element-requires
+next_lending-element-requires c =
+    let P : Row → Type 0 = λ r. r.epoch < 2 ^ 32 - 1 in
+    let all = subst (λ v. AllByRecursion P v.rows) (sym c.self.view_is) (recursion_from_All P _ c.requires) in
+    let has : first_free c.self.inside.rows.items ≡ Some c.in_ok-first_free.field-0 = ap first_free (sym c.deref.ensures.value) ∙ sym c.first_free.ensures ∙ c.in_ok-first_free.was in
+    free_one P c.self.inside.rows.items c.in_ok-first_free.field-0 all has
+
+pub invariant_of-self : goal.invariant_of-self
+invariant_of-self c = ap (λ rs. map (λ r. r.place) rs) c.lend_at.ensures ∙ lent_places_kept _ c.args.conn c.self.inside.rows.items ∙ c.self.invariant
