@@ -1,11 +1,13 @@
 -- A change of an element's lending leaves every element in its place, and the elements of a new ledger are those of the side.
-use Rattle.std.proofs.Common.{◌≡◌, ◌∙◌, ℕ, zero, suc, ◌+◌, ◌-◌, ◌<◌, ◌^◌, Bool, true, false, not, cond, List, [], ◌∷◌, ◌++◌, map, Option, Some, None, All, refl, sym, ap, subst, arith, append_assoc}
-use Rattle.std.specs.Prelude.{flat_map, find, if◌then◌else◌}
+use Rattle.std.proofs.Common.{◌≡◌, ◌∙◌, ℕ, zero, suc, ◌+◌, ◌==◌, ◌&&◌, Bool, true, false, not, cond, List, [], ◌∷◌, ◌++◌, map, Some, None, refl, sym, ap, subst, arith, append_assoc}
+use Rattle.std.specs.Prelude.{flat_map, find, if◌then◌else◌, option_and_then}
 use Rattle.std.specs.List.{range_with_len, AllByRecursion}
 use Rattle.std.proofs.lemmas.List.FromFn.{map-range_with_len_more}
 use Rattle.smc_num.specs.Places.{Place, same_place, places_in, all_places}
+use Rattle.std.proofs.lemmas.Bool.{eq-eqb}
+use Rattle.element_ledger.specs.declared.Element.{Element}
 use Rattle.element_ledger.specs.declared.rows.Change.{Change}
-use Rattle.element_ledger.specs.Lendings.{Row, fresh, first_free, is_lent, changes_at, changed, lends, freed}
+use Rattle.element_ledger.specs.Lendings.{Row, fresh, first_free, is_lent, changes_at, changed, changed_lending, lends, freed, is_now, lending_of, next_lending, place_of}
 
 -- the place of an element
 abbrev place : Row → Place
@@ -68,3 +70,53 @@ free_one P (q ∷ rows) r all has = by_test (not (is_lent q)) has (free_one P ro
     by_test : (b : Bool) → cond b (Some q) (first_free rows) ≡ Some r → (first_free rows ≡ Some r → P r) → P r
     by_test true e rest = let same : q ≡ r = cc in subst P same all.0
     by_test false e rest = rest e
+
+same_refl : (p : Place) → same_place p p ≡ true
+same_refl p = ap (λ b. b && (p.index == p.index)) (eq-eqb p.rmb p.rmb refl) ∙ eq-eqb p.index p.index refl
+
+-- a change of a lending is a change of that lending
+pub lending_of-changed : (e : Element) (change : Change) (rows : List Row)
+    → lending_of e (map (changes_at (place_of e) (changed change)) rows) ≡ option_and_then (changed_lending change) (lending_of e rows)
+lending_of-changed e change [] = refl
+lending_of-changed e change (r ∷ rows) = by_place (same_place (place_of e) r.place) refl (lending_of-changed e change rows)
+  where
+    by_place : (b : Bool) → same_place (place_of e) r.place ≡ b
+        → lending_of e (map (changes_at (place_of e) (changed change)) rows) ≡ option_and_then (changed_lending change) (lending_of e rows)
+        → option_and_then (λ (q : Row). q.lending) (cond (same_place (place_of e) (if b then changed change r else r).place && ((if b then changed change r else r).epoch == e.epoch)) (Some (if b then changed change r else r)) (find (is_now e) (map (changes_at (place_of e) (changed change)) rows)))
+        ≡ option_and_then (changed_lending change) (option_and_then (λ (q : Row). q.lending) (cond (b && (r.epoch == e.epoch)) (Some r) (find (is_now e) rows)))
+    by_place true at rest = ap (λ t. option_and_then (λ (q : Row). q.lending) (cond (t && (r.epoch == e.epoch)) (Some (changed change r)) (find (is_now e) (map (changes_at (place_of e) (changed change)) rows)))) at ∙ by_epoch (r.epoch == e.epoch) rest
+      where
+        by_epoch : (c : Bool) → lending_of e (map (changes_at (place_of e) (changed change)) rows) ≡ option_and_then (changed_lending change) (lending_of e rows)
+            → option_and_then (λ (q : Row). q.lending) (cond c (Some (changed change r)) (find (is_now e) (map (changes_at (place_of e) (changed change)) rows))) ≡ option_and_then (changed_lending change) (option_and_then (λ (q : Row). q.lending) (cond c (Some r) (find (is_now e) rows)))
+        by_epoch true rest = refl
+        by_epoch false rest = rest
+    by_place false at rest = ap (λ t. option_and_then (λ (q : Row). q.lending) (cond (t && (r.epoch == e.epoch)) (Some r) (find (is_now e) (map (changes_at (place_of e) (changed change)) rows)))) at ∙ rest
+
+-- an element that is lent is lent to that connection
+pub lending_of-lends : (conn : ℕ) (rows : List Row) (r : Row) → first_free rows ≡ Some r
+    → lending_of (next_lending r) (map (changes_at (place_of (next_lending r)) (lends conn)) rows) ≡ Some (record { conn = conn; own = false; peer = false })
+lending_of-lends conn [] r has = absurd (let e : None ≡ Some r = has in let f : false ≡ true = cc in cc)
+lending_of-lends conn (q ∷ rows) r has = by_place (same_place r.place q.place) refl (not (is_lent q)) has (lending_of-lends conn rows r)
+  where
+    by_place : (b : Bool) → same_place r.place q.place ≡ b → (c : Bool) → cond c (Some q) (first_free rows) ≡ Some r
+        → (first_free rows ≡ Some r → lending_of (next_lending r) (map (changes_at r.place (lends conn)) rows) ≡ Some (record { conn = conn; own = false; peer = false }))
+        → option_and_then (λ (p : Row). p.lending) (cond (same_place r.place (if b then lends conn q else q).place && ((if b then lends conn q else q).epoch == r.epoch + 1)) (Some (if b then lends conn q else q)) (find (is_now (next_lending r)) (map (changes_at r.place (lends conn)) rows)))
+        ≡ Some (record { conn = conn; own = false; peer = false })
+    by_place true at true e rest =
+        let same : q ≡ r = cc in
+        let epochs : (q.epoch + 1 == r.epoch + 1) ≡ true = eq-eqb (q.epoch + 1) (r.epoch + 1) (ap (λ (p : Row). p.epoch + 1) same) in
+        ap (λ t. option_and_then (λ (p : Row). p.lending) (cond (t && (q.epoch + 1 == r.epoch + 1)) (Some (lends conn q)) (find (is_now (next_lending r)) (map (changes_at r.place (lends conn)) rows)))) at
+        ∙ ap (λ t. option_and_then (λ (p : Row). p.lending) (cond t (Some (lends conn q)) (find (is_now (next_lending r)) (map (changes_at r.place (lends conn)) rows)))) epochs
+    by_place true at false e rest =
+        ap (λ t. option_and_then (λ (p : Row). p.lending) (cond (t && (q.epoch + 1 == r.epoch + 1)) (Some (lends conn q)) (find (is_now (next_lending r)) (map (changes_at r.place (lends conn)) rows)))) at
+        ∙ by_epoch (q.epoch + 1 == r.epoch + 1) (rest e)
+      where
+        by_epoch : (c : Bool) → lending_of (next_lending r) (map (changes_at r.place (lends conn)) rows) ≡ Some (record { conn = conn; own = false; peer = false })
+            → option_and_then (λ (p : Row). p.lending) (cond c (Some (lends conn q)) (find (is_now (next_lending r)) (map (changes_at r.place (lends conn)) rows))) ≡ Some (record { conn = conn; own = false; peer = false })
+        by_epoch true rest = refl
+        by_epoch false rest = rest
+    by_place false at true e rest =
+        let same : q ≡ r = cc in
+        let wrong : false ≡ true = sym at ∙ (ap (λ (p : Row). same_place r.place p.place) same ∙ same_refl r.place) in cc
+    by_place false at false e rest =
+        ap (λ t. option_and_then (λ (p : Row). p.lending) (cond (t && (q.epoch == r.epoch + 1)) (Some q) (find (is_now (next_lending r)) (map (changes_at r.place (lends conn)) rows)))) at ∙ rest e

@@ -1,6 +1,6 @@
 -- The first free element in a ledger's order is the lowest free place.
 use Rattle.std.proofs.Common.{◌≡◌, ◌∙◌, ℕ, zero, suc, ◌+◌, ◌<◌, ◌==◌, ◌&&◌, ◌||◌, Bool, true, false, not, cond, List, [], ◌∷◌, ◌++◌, map, filter, Option, Some, None, option_map, refl, sym, ap, subst, arith}
-use Rattle.std.specs.Prelude.{flat_map, find, is_some}
+use Rattle.std.specs.Prelude.{flat_map, find}
 use Rattle.std.specs.List.{list_any, range_with_len, AllByRecursion}
 use Rattle.std.proofs.lemmas.Bool.{eqb-true, eq-eqb, ne_eqb}
 use Rattle.smc_num.specs.Places.{Place, same_place, places_in, all_places, is_free, lowest_free}

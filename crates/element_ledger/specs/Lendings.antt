@@ -1,5 +1,5 @@
 -- The elements of a side's RMBs, how often each was lent, and to which connection it is lent now.
-use Rattle.std.specs.Prelude.{◌≡◌, ℕ, ◌+◌, ◌==◌, ◌&&◌, not, Bool, true, false, if◌then◌else◌, List, map, filter, find, Option, Some, None, is_some, option_map, option_and_then, IsSome}
+use Rattle.std.specs.Prelude.{◌≡◌, ℕ, ◌+◌, ◌==◌, ◌&&◌, not, Bool, true, false, if◌then◌else◌, List, map, filter, find, Option, Some, None, is_some, option_and_then, IsSome}
 use Rattle.std.specs.List.{list_any}
 use Rattle.std.specs.Option.{option_map_or}
 use Rattle.smc_num.specs.Places.{Place, same_place, all_places}

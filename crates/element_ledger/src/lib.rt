@@ -6,9 +6,9 @@
 //! from 1, so that what was said of an earlier lending is never taken for one of the present.
 #![tactic(auto)]
 
-ghost use Rattle.std.specs.Prelude.{◌≡◌, ◌-◌, ◌<◌, ◌^◌, ◌&&◌, ◌↔◌, false, All, map, option_map, IfErr, IfNone, IfOk, IfSome, IsErr, OnErr, OnOk};
+ghost use Rattle.std.specs.Prelude.{◌≡◌, ◌-◌, ◌<◌, ◌^◌, ◌&&◌, ◌↔◌, false, All, map, Some, option_and_then, option_map, IfErr, IfNone, IfOk, IfSome, IsErr, OnErr, OnOk};
 ghost use Rattle.smc_num.specs.Places.{all_places, lowest_free};
-ghost use Rattle.element_ledger.specs.Lendings.{IsLedger, IsLent, changed, changes_at, first_free, freed, fresh, is_idle, lends, lent_places, next_lending, own_gone, peer_gone, place_of};
+ghost use Rattle.element_ledger.specs.Lendings.{IsLedger, IsLent, changed, changed_lending, changes_at, first_free, freed, fresh, is_idle, lending_of, lends, lent_places, next_lending, own_gone, peer_gone, place_of};
 ghost use Rattle.element_ledger.specs.declared.rows.Change.TheVariants.{OwnGone, PeerGone, GivenBack};
 
 mod rows;
@@ -81,6 +81,7 @@ impl Ledger {
         requires { All (λ r. r.epoch < 2 ^ 32 - 1) self.old.rows }
         ensures element { result ≡ option_map next_lending (first_free self.old.rows) }
         ensures lent { IfSome result (λ e. self.new ≡ record self.old { rows = map (changes_at (place_of e) (lends conn)) self.old.rows }) }
+        ensures lending { IfSome result (λ e. lending_of e self.new.rows ≡ Some (record { conn = conn; own = false; peer = false })) }
         ensures none { IfNone result (self.new ≡ self.old) }
     {
         let element = first_free(&self.rows)?.next_lending();
@@ -91,7 +92,8 @@ impl Ledger {
     /// Notes that the own end of the connection has gone.
     pub fn own_gone(&mut self, e: Element)
         requires { IsLent e self.old.rows }
-        ensures { self.new ≡ record self.old { rows = map (changes_at (place_of e) (changed OwnGone)) self.old.rows } }
+        ensures marked { self.new ≡ record self.old { rows = map (changes_at (place_of e) (changed OwnGone)) self.old.rows } }
+        ensures lending { lending_of e self.new.rows ≡ option_and_then (changed_lending OwnGone) (lending_of e self.old.rows) }
     {
         change_at(&mut self.rows, e, Change::OwnGone);
     }
@@ -99,7 +101,8 @@ impl Ledger {
     /// Notes that the peer's end of the connection has gone.
     pub fn peer_gone(&mut self, e: Element)
         requires { IsLent e self.old.rows }
-        ensures { self.new ≡ record self.old { rows = map (changes_at (place_of e) (changed PeerGone)) self.old.rows } }
+        ensures marked { self.new ≡ record self.old { rows = map (changes_at (place_of e) (changed PeerGone)) self.old.rows } }
+        ensures lending { lending_of e self.new.rows ≡ option_and_then (changed_lending PeerGone) (lending_of e self.old.rows) }
     {
         change_at(&mut self.rows, e, Change::PeerGone);
     }
@@ -145,12 +148,42 @@ mod tests {
     use super::*;
     use std::test::Fail;
 
-    // One RMB of two elements: what is lent, in which epoch, and when it is given back.
+    // Lends an element to a connection, both of whose ends then go, and tells what was refused before.
+    fn lend_and_give_back(
+        ledger: &mut Ledger,
+        conn: u32,
+    ) -> Option<(Element, Result<(), StillLent>, Result<(), StillLent>)>
+        requires { All (λ r. r.epoch < 2 ^ 32 - 1) ledger.old.rows }
+    {
+        let element = ledger.lend(conn)?;
+        ledger.peer_gone(element);
+        let early = ledger.give_back(element);
+        if early.is_ok() {
+            return None;
+        }
+        ledger.own_gone(element);
+        let late = ledger.give_back(element);
+        Some((element, early, late))
+    }
+
     #[test]
-    fn elements_are_lent_in_turn(rt: HostRuntime) -> Result<(), Fail> {
+    fn an_element_is_given_back_by_both_ends(rt: HostRuntime) -> Result<(), Fail> {
         let mut ledger = Ledger::new(rt.alloc(), 1, 2)?;
         assert_eq!(rt; ledger.next_free(), Some((1, 1)));
+        let peer_alone = Err(StillLent {
+            own: false,
+            peer: true,
+        });
+        let element = Element {
+            rmb: 1,
+            index: 1,
+            epoch: 1,
+        };
+        let lent = lend_and_give_back(&mut ledger, 7);
+        assert_eq!(rt; lent, Some((element, peer_alone, Ok(()))));
         assert!(rt; ledger.idle(1));
+        ledger.end_all();
+        assert_eq!(rt; ledger.next_free(), Some((1, 1)));
         Ok(())
     }
 }

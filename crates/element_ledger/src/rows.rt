@@ -98,8 +98,9 @@ impl Row {
             own: false,
             peer: false,
         };
+        let next = self.epoch + 1;
         Row {
-            epoch: self.epoch + 1,
+            epoch: next,
             lending: Some(lending),
             ..self
         }

@@ -1,4 +1,4 @@
-use Rattle.std.proofs.Common.{◌≡◌, ◌∙◌, map, ap}
+use Rattle.std.proofs.Common.{◌∙◌, map, ap}
 use Rattle.element_ledger.proofs.Changes.{freed_places}
 use Rattle.element_ledger.proofs.Ledger.end_all.Goals as goal
 

@@ -1,4 +1,4 @@
-use Rattle.std.proofs.Common.{◌≡◌, ◌∙◌, map, ap}
+use Rattle.std.proofs.Common.{◌∙◌, map, ap}
 use Rattle.element_ledger.specs.declared.rows.Change.TheVariants.{GivenBack}
 use Rattle.element_ledger.specs.Lendings.{place_of}
 use Rattle.element_ledger.proofs.Changes.{changed_places}

@@ -1,4 +1,4 @@
-use Rattle.std.proofs.Common.{◌≡◌, ◌∙◌, map, ap}
+use Rattle.std.proofs.Common.{◌∙◌, map, ap}
 use Rattle.smc_num.specs.Places.{all_places}
 use Rattle.element_ledger.proofs.Changes.{fresh_places}
 use Rattle.element_ledger.proofs.Ledger.new.Goals as goal

@@ -1,4 +1,4 @@
-use Rattle.std.proofs.Common.{◌≡◌, ◌∙◌, ℕ, option_map, ap, subst, rules}
+use Rattle.std.proofs.Common.{◌≡◌, ◌∙◌, ℕ, option_map, subst, rules}
 use Rattle.element_ledger.specs.Lendings.{Row, IsLedger, first_free}
 use Rattle.element_ledger.proofs.Lowest.{lowest_pair}
 use Rattle.element_ledger.proofs.Ledger.next_free.Goals as goal

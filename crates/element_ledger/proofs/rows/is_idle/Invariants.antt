@@ -1,5 +1,5 @@
 use Rattle.std.proofs.Common.{◌≡◌, drop}
-use Rattle.element_ledger.specs.Lendings.{first_free, lending_of, is_idle}
+use Rattle.element_ledger.specs.Lendings.{is_idle}
 use Rattle.element_ledger.proofs.rows.is_idle.Given as goal
 
 -- what is left gives the same as all

@@ -1,7 +1,6 @@
-use Rattle.std.proofs.Common.{◌≡◌, ◌∙◌, ◌<◌, length, set, sym, ap, subst}
+use Rattle.std.proofs.Common.{◌∙◌, ◌<◌, length, set, sym, ap, subst}
 use Rattle.std.proofs.lemmas.List.Edits.{map_over_more}
-use Rattle.smc_num.specs.Places.{Place}
-use Rattle.element_ledger.specs.Lendings.{changed, changes_at, freed, lends, place_of}
+use Rattle.element_ledger.specs.Lendings.{changes_at, lends, place_of}
 use Rattle.element_ledger.proofs.rows.lend_at.Goals as goal
 
 pub loop-row-preserved : goal.loop-row-preserved

@@ -1,6 +1,5 @@
 use Rattle.std.proofs.Common.{◌≡◌, ◌++◌, map, take, drop}
-use Rattle.smc_num.specs.Places.{Place}
-use Rattle.element_ledger.specs.Lendings.{changed, changes_at, freed, lends, place_of}
+use Rattle.element_ledger.specs.Lendings.{changes_at, lends, place_of}
 use Rattle.element_ledger.proofs.rows.lend_at.Given as goal
 
 -- those so far are changed

@@ -1,5 +1,5 @@
 use Rattle.std.proofs.Common.{◌≡◌, drop}
-use Rattle.element_ledger.specs.Lendings.{first_free, lending_of, is_idle}
+use Rattle.element_ledger.specs.Lendings.{lending_of}
 use Rattle.element_ledger.proofs.rows.lending_of.Given as goal
 
 -- what is left gives the same as all

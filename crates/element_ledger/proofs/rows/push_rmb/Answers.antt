@@ -1,4 +1,4 @@
-use Rattle.std.proofs.Common.{◌≡◌, ◌∙◌, ◌+◌, ◌++◌, ◌∷◌, [], map, sym, ap, arith, append_assoc}
+use Rattle.std.proofs.Common.{◌∙◌, ◌+◌, ◌++◌, ◌∷◌, [], map, sym, ap, arith, append_assoc}
 use Rattle.smc_num.specs.Places.{places_in}
 use Rattle.element_ledger.specs.Lendings.{fresh}
 use Rattle.element_ledger.proofs.Changes.{places_in-more, map-append}
