@@ -20,8 +20,8 @@ use smc_num::NoMemory;
 use std::alloc::Global;
 use std::marker::Model;
 
-/// An element in one of its lendings: its RMB and its place in it, both from 1, and the how
-/// many-eth lending it is, from 1.
+/// An element in one of its lendings: its RMB and its place in it, both from 1, and which of its
+/// lendings it is, from 1.
 #[derive(Clone, Copy, Debug, PartialEq, Eq)]
 pub struct Element {
     pub rmb: u8,

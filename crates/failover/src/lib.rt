@@ -3,7 +3,8 @@
 //! A link group has several links so that connections outlive the failure of one (RFC 7609, section
 //! 4.6). The table has, for each slot, the latest link that the side made there and its phase: it is
 //! pending from its making, live once confirmed, and dead once the side has reported it. New
-//! connections go to the live link with the fewest, and moves to the lowest live one.
+//! connections go to the live link with the fewest of them, the lowest on a tie, and connections whose
+//! link is lost move to the lowest live one.
 #![tactic(auto)]
 
 ghost use Rattle.std.specs.Prelude.{◌≡◌, ◌+◌, ◌-◌, ◌≤◌, ◌↔◌, false, true, [], ◌∷◌, length, map, option_map, replicate, slice_index, slice_set, IfSome, IsNone, All};

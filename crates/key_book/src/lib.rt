@@ -1,9 +1,9 @@
 //! What a side has learnt of its peer's keys.
 //!
 //! The peer tells for each of its RMBs, on each link, the key and the address by which it may be
-//! written (RFC 7609, sections 4.4.1 and 4.5). The book is a finite map from RMB and link to these. What is
+//! written (RFC 7609, section 2.1). The book is a finite map from RMB and link to these. What is
 //! learnt for a new link of a slot takes the place of what was known for the earlier one, so that
-//! the room taken at the start is always enough.
+//! the room taken by `new` is always enough.
 #![tactic(auto)]
 
 ghost use Rattle.std.specs.Prelude.{◌≡◌, [], option_map, IfOk};

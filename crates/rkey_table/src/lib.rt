@@ -1,7 +1,9 @@
 //! The keys by which a peer may write into a side's RMBs.
 //!
-//! A key is a number that is bound to one RMB for one link (RFC 7609, section 4.4.1). The table is
-//! the list of these, in the order in which they were bound.
+//! A key is a number that is bound to one RMB for one link (RFC 7609, section 2.1). The table is the
+//! list of these, in the order in which they were bound. No number is ever bound to two RMBs; an RMB
+//! keeps its number for a slot when a new link is made there, and else gets the lowest unused one.
+//! All memory is taken by `new`, and a refusal changes nothing.
 #![tactic(auto)]
 
 ghost use Rattle.std.specs.Prelude.{◌≡◌, ℕ, ◌+◌, ◌≤◌, ◌<◌, ◌^◌, ◌↔◌, false, [], length, IfOk, OnOk, OnErr, IsErr, IsNone};
