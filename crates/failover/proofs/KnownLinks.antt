@@ -26,7 +26,7 @@ lt_false : (a b : ℕ) → b ≤ a → nat_lt a b ≡ false
 lt_false a b le = grind (arith, nat_tests)
 
 -- what is known of links whose slots begin at b has no slot below b
-none_below : (b k : ℕ) (ps : List LinkPhase) (ls : List LinkId) → k < b → AreInOrder b ls → at_slot k (known_in ps ls) ≡ None
+pub none_below : (b k : ℕ) (ps : List LinkPhase) (ls : List LinkId) → k < b → AreInOrder b ls → at_slot k (known_in ps ls) ≡ None
 none_below b k [] ls low order = refl
 none_below b k (p ∷ ps) [] low order = refl
 none_below b k (p ∷ ps) (l ∷ ls) low order = by_test (same_phase p Unused) (none_below (b + 1) k ps ls (omega (arith, low)) order.1)
@@ -34,6 +34,16 @@ none_below b k (p ∷ ps) (l ∷ ls) low order = by_test (same_phase p Unused) (
     by_test : (t : Bool) → at_slot k (known_in ps ls) ≡ None → at_slot k (if t then known_in ps ls else record { link = l; phase = p } ∷ known_in ps ls) ≡ None
     by_test true rest = rest
     by_test false rest = let slot = order.0 in ap (λ t. cond t (Some (record { link = l; phase = p })) (at_slot k (known_in ps ls))) (ne_eqb l.slot k (λ e. omega (arith, e, slot, low))) ∙ rest
+
+-- nor one behind the last of them
+pub none_above : (b k : ℕ) (ps : List LinkPhase) (ls : List LinkId) → b + length ls ≤ k → AreInOrder b ls → at_slot k (known_in ps ls) ≡ None
+none_above b k [] ls high order = refl
+none_above b k (p ∷ ps) [] high order = refl
+none_above b k (p ∷ ps) (l ∷ ls) high order = by_test (same_phase p Unused) (none_above (b + 1) k ps ls (omega (arith, high)) order.1)
+  where
+    by_test : (t : Bool) → at_slot k (known_in ps ls) ≡ None → at_slot k (if t then known_in ps ls else record { link = l; phase = p } ∷ known_in ps ls) ≡ None
+    by_test true rest = rest
+    by_test false rest = let slot = order.0 in ap (λ t. cond t (Some (record { link = l; phase = p })) (at_slot k (known_in ps ls))) (ne_eqb l.slot k (λ e. omega (arith, e, slot, high))) ∙ rest
 
 -- the phase of a slot is that of its place
 pub phase_in : (b i : ℕ) (ps : List LinkPhase) (ls : List LinkId) → length ps ≡ length ls → AreInOrder b ls → phase_at (b + i) (known_in ps ls) ≡ get_or ps i Unused

@@ -15,6 +15,7 @@ ghost use Rattle.failover.specs.Choices.{lowest_from, IsFewest, is_due_for_move}
 ghost use Rattle.failover.specs.Tables.{Links};
 
 mod choices;
+pub mod laws;
 
 pub use crate::choices::{due_for_move, fewest, lowest_live};
 use smc_num::{LinkId, LinkPhase};
@@ -122,11 +123,16 @@ impl LinkTable {
         self.phases = [LinkPhase::Unused; MOST];
     }
 
-    /// The latest link of the slot in this group.
+    /// The latest link of the slot in this group. An unused slot has none.
     pub fn link(&self, slot: u8) -> Option<LinkId>
-        requires { (1 ≤ slot) × (slot ≤ self.now.slots) }
         ensures { result ≡ link_at slot self.now.known }
     {
+        if self.slots < slot {
+            return None;
+        }
+        if slot == 0 {
+            return None;
+        }
         let at = slot as usize - 1;
         match self.phases[at] {
             LinkPhase::Unused => None,
