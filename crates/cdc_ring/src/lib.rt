@@ -1,10 +1,10 @@
 //! The send ring of one end of a connection: the accepted bytes that have not completed, at most as
-//! many as the peer's RMB element has (RFC 7609, section 4.4).
+//! many as the peer's RMB element has (RFC 7609, section 4.7).
 //!
 //! It accepts what fits the window, says where in the element the unposted bytes go, and goes back to
-//! the last completed byte when the end moves to another link. Contracts speak of plain counts of bytes:
-//! for every ring in plain counts for which the value stands, each call says for which it stands then.
-//! The memory is taken when the ring is made, and none later.
+//! the last completed byte when the end moves to another link (section 4.6). Contracts speak of plain
+//! counts of bytes: for every ring in plain counts for which the value stands, each call says for which
+//! it stands then. The memory is taken when the ring is made, and none later.
 #![tactic(auto)]
 
 ghost use Rattle.std.specs.Prelude.{◌≡◌, ℕ, ◌+◌, ◌-◌, ◌%◌, ◌<◌, ◌≤◌, ◌++◌, length, min, take, drop, map, filter, nat_lt, IfOk};
@@ -110,7 +110,7 @@ impl SendRing {
         )
     }
 
-    /// All accepted bytes are posted now.
+    /// All accepted bytes are posted now. At most 8 postings may be under way.
     pub fn posted(&mut self)
         requires { length self.old.marks < 8 }
         ensures { (ring : Ring) → StandsFor self.old ring → StandsFor self.new (posts ring) }

@@ -1,4 +1,4 @@
-//! The buffer of a remote memory buffer (RMB), cut into elements of one size (RFC 7609, section 4.4).
+//! The buffer of a remote memory buffer (RMB), cut into elements of one size (RFC 7609, section 4.2).
 //!
 //! A landing writes whole runs of bytes at an address and nothing else, whatever element they lie in. It
 //! is refused exactly where its range isn't inside the buffer, and then changes nothing. A reader copies
@@ -13,6 +13,9 @@ use std::alloc::Global;
 use std::marker::Model;
 
 pub mod laws;
+
+// From the address of an RMB to that of the next one.
+const SPACING: u64 = 4_294_967_296;
 
 /// A landing's range isn't inside the buffer.
 #[derive(Clone, Copy, Debug, PartialEq, Eq)]
@@ -82,7 +85,7 @@ impl Region {
         ensures inside { IsOk result ↔ IsInside address len self.now }
         ensures offset { IfOk result (λ start. start ≡ offset address self.now) }
     {
-        let base = self.rmb as u64 * 4_294_967_296;
+        let base = self.rmb as u64 * SPACING;
         if address < base {
             return Err(OutOfRegion);
         }
