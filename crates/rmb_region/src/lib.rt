@@ -146,9 +146,9 @@ mod tests {
         };
         for (address, answer) in [
             (4_294_983_679, Ok(())),
+            (4_295_000_062, Ok(())),
             (4_295_000_063, Err(OutOfRegion)),
             (4_294_967_295, Err(OutOfRegion)),
-            (4_295_000_062, Ok(())),
         ] {
             assert_eq!(rt;
                 region.land(address, &[0xaa], &[0xbb]),
@@ -157,8 +157,8 @@ mod tests {
             );
         }
         for (element, from, bytes) in [
-            (1, 16_382, [0, 0xaa, 0]),
-            (1, 16_383 + SIZE, [0xaa, 0, 0]),
+            (1, 16_383, [0xaa, 0, 0]),
+            (1, 16_382 + SIZE, [0, 0xaa, 0]),
             (2, 0, [0xbb, 0, 0]),
             (2, 16_382, [0xaa, 0xbb, 0xbb]),
         ] {
