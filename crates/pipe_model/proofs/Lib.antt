@@ -21,3 +21,6 @@ pub mod Whole
 pub mod Spelling
 pub mod Carried
 mod PartExamples
+pub mod FewSnapshots
+pub mod Lasting
+pub mod Unswallowed

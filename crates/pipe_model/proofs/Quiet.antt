@@ -61,43 +61,43 @@ not-open : (fin out : ℕ) (p : Phase) → is_some (cause_of p) ≡ false → is
 not-open fin out p e f (inl g) = sym g ∙ e
 not-open fin out p e f (inr g) = sym g.0 ∙ f
 
-finish-spent : (fin out : ℕ) (p : Phase) → IsSpent fin out p → IsSpent fin out (after_finish p)
+pub finish-spent : (fin out : ℕ) (p : Phase) → IsSpent fin out p → IsSpent fin out (after_finish p)
 finish-spent fin out Open e = e
 finish-spent fin out p e = e
 
-close-spent : (fin out : ℕ) (p : Phase) → IsSpent fin out p → IsSpent fin out (after_close p)
+pub close-spent : (fin out : ℕ) (p : Phase) → IsSpent fin out p → IsSpent fin out (after_close p)
 close-spent fin out Open e = absurd (true≢false (not-open fin out Open refl refl e))
 close-spent fin out Finished e = absurd (true≢false (not-open fin out Finished refl refl e))
 close-spent fin out p e = e
 
-abort-spent : (fin out : ℕ) (p : Phase) → IsSpent fin out p → IsSpent fin out (after_abort p)
+pub abort-spent : (fin out : ℕ) (p : Phase) → IsSpent fin out p → IsSpent fin out (after_abort p)
 abort-spent fin out Open e = inl refl
 abort-spent fin out Finished e = inl refl
 abort-spent fin out p e = e
 
-struck-spent : (fin out : ℕ) (c : ResetCause) (p : Phase) → IsSpent fin out p → IsSpent fin out (struck c p)
+pub struck-spent : (fin out : ℕ) (c : ResetCause) (p : Phase) → IsSpent fin out p → IsSpent fin out (struck c p)
 struck-spent fin out c Open e = inl refl
 struck-spent fin out c Finished e = inl refl
 struck-spent fin out c Closing e = inl refl
 struck-spent fin out c p e = e
 
-ended-spent : (fin out g : ℕ) (p : Phase) → IsSpent fin out p → IsSpent fin out (ended_with g p)
+pub ended-spent : (fin out g : ℕ) (p : Phase) → IsSpent fin out p → IsSpent fin out (ended_with g p)
 ended-spent fin out g Open e = inl refl
 ended-spent fin out g Finished e = inl refl
 ended-spent fin out g Closing e = inl refl
 ended-spent fin out g p e = e
 
-posting-spent : (fin out : ℕ) (s : Snapshot) (p : Phase) → IsSpent fin out p → IsSpent fin out (after_posting s p)
+pub posting-spent : (fin out : ℕ) (s : Snapshot) (p : Phase) → IsSpent fin out p → IsSpent fin out (after_posting s p)
 posting-spent fin out s Closing e = spent-if fin out s.closed ClosePosted Closing e e
 posting-spent fin out s (Resetting c) e = inl refl
 posting-spent fin out s p e = e
 
-completing-spent : (fin out : ℕ) (s : Snapshot) (p : Phase) → IsSpent fin out p → IsSpent fin out (after_completing s p)
+pub completing-spent : (fin out : ℕ) (s : Snapshot) (p : Phase) → IsSpent fin out p → IsSpent fin out (after_completing s p)
 completing-spent fin out s ClosePosted e = spent-if fin out s.closed CloseDone ClosePosted e e
 completing-spent fin out s (AbortPosted c) e = spent-if fin out s.aborted (AbortDone c) (AbortPosted c) e e
 completing-spent fin out s p e = e
 
-moving-spent : (fin out : ℕ) (p : Phase) → IsSpent fin out p → IsSpent fin out (after_moving p)
+pub moving-spent : (fin out : ℕ) (p : Phase) → IsSpent fin out p → IsSpent fin out (after_moving p)
 moving-spent fin out ClosePosted e = e
 moving-spent fin out (AbortPosted c) e = e
 moving-spent fin out p e = e
@@ -145,7 +145,7 @@ last-append (k ∷ ms) m e = split (or-cases (is_last k.snapshot) (has_last (ms 
     split (inl f) g = inl (ap (λ b. b || has_last ms) f)
     split (inr f) g = later (g f)
 
-present-spent : (h : Half) → is_last (present h) ≡ true → IsSpent h.fin.told (length h.out) h.phase
+pub present-spent : (h : Half) → is_last (present h) ≡ true → IsSpent h.fin.told (length h.out) h.phase
 present-spent h e = by (or-cases (present h).closed (present h).aborted e)
   where
     by : ((present h).closed ≡ true) ⊎ ((present h).aborted ≡ true) → IsSpent h.fin.told (length h.out) h.phase
@@ -194,17 +194,21 @@ settled size depth h k b q =
     by false x y = x
 
 -- calls
+-- an end that accepts bytes isn't spent
+pub accepts-unspent : (h : Half) → (is_some (cause_of h.phase) || is_ended h) ≡ false → IsSpent h.fin.told (length h.out) h.phase → true ≡ false
+accepts-unspent h e s = by (is_some (cause_of h.phase)) (is_closing h.phase) h.taken.closed (is_finished h.phase) e s
+  where
+    by : (c l t f : Bool) → (c || ((l || t) || f)) ≡ false → (c ≡ true) ⊎ ((l ≡ true) × (h.fin.told ≡ length h.out)) → true ≡ false
+    by c l t f e (inl g) = ap (λ b. b || ((l || t) || f)) (sym g) ∙ e
+    by true l t f e (inr g) = e
+    by false l t f e (inr g) = ap (λ b. (b || t) || f) (sym g.0) ∙ e
+
 accepts-quiet : (h k : Half) (bytes : List ℕ) (b : Bool) → (is_some (cause_of h.phase) || is_ended h) ≡ b → QuietBoth h k → QuietBoth (if b then h else record h { out = h.out ++ bytes }) k
 accepts-quiet h k bytes true e q = q
 accepts-quiet h k bytes false e q = (
-  respent (to_land h) k.taken h.fin.told (length h.out) h.fin.told (length (h.out ++ bytes)) h.phase h.phase (λ s. absurd (true≢false (not-ended (is_some (cause_of h.phase)) (is_closing h.phase) h.taken.closed (is_finished h.phase) e s))) q.0,
+  respent (to_land h) k.taken h.fin.told (length h.out) h.fin.told (length (h.out ++ bytes)) h.phase h.phase (λ s. absurd (true≢false (accepts-unspent h e s))) q.0,
   q.1,
 )
-  where
-    not-ended : (c l t f : Bool) → (c || ((l || t) || f)) ≡ false → (c ≡ true) ⊎ ((l ≡ true) × (h.fin.told ≡ length h.out)) → true ≡ false
-    not-ended c l t f e (inl g) = ap (λ b. b || ((l || t) || f)) (sym g) ∙ e
-    not-ended true l t f e (inr g) = e
-    not-ended false l t f e (inr g) = ap (λ b. (b || t) || f) (sym g.0) ∙ e
 
 moves-quiet : (h k : Half) → QuietBoth h k → QuietBoth (moves h) k
 moves-quiet h k q =
@@ -287,7 +291,7 @@ counted-by h k (inr l) more o q =
     subst (λ n. Quiet (drop n h.sent) k.taken h.fin.told (length h.out) h.phase) e
     (passed next.0 (drop (h.landed + 1) h.sent) k.taken h.fin.told (length h.out) h.phase (subst (λ ms. Quiet ms k.taken h.fin.told (length h.out) h.phase) next.1 q))
 
-refined : (fin out told : ℕ) (p : Phase) → fin ≤ told → told ≤ out → IsSpent fin out p → IsSpent told out p
+pub refined : (fin out told : ℕ) (p : Phase) → fin ≤ told → told ≤ out → IsSpent fin out p → IsSpent told out p
 refined fin out told p a b (inl e) = inl e
 refined fin out told p a b (inr e) = inr (e.0, omega (arith, e.1))
 
