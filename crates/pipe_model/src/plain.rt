@@ -13,6 +13,8 @@ mod links;
 mod lists;
 mod news;
 mod pipe;
+#[cfg(test)]
+mod tests;
 
 pub use asked::{PlainCall, PlainTold};
 pub use end::PlainEnd;

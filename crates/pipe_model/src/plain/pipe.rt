@@ -1,13 +1,12 @@
 //! The pipe of one connection, fed item by item.
-ghost use Rattle.std.specs.Prelude.{◌≡◌, ◌<◌, ◌↔◌, [], IfOk, OnOk, IsSome, length};
+ghost use Rattle.std.specs.Prelude.{◌≡◌, ◌<◌, IfOk, OnOk, length};
 ghost use Rattle.smc_num.specs.Names.{head};
 ghost use Rattle.pipe_model.specs.Ends.{to_land, lands, takes};
 ghost use Rattle.pipe_model.specs.Pipe.{Fate, GroupEnd, Up, Calls, Lands, Completes, half, told};
-ghost use Rattle.pipe_model.specs.Plain.{Run, begun, after, applied, settled, call_of, told_of};
+ghost use Rattle.pipe_model.specs.Plain.{begun, after, settled, call_of, told_of};
 
 use crate::plain::asked::{PlainCall, PlainTold};
 use crate::plain::end::PlainEnd;
-use crate::sent::Sent;
 use smc_num::{LinkId, LinkPhase, Side};
 use std::alloc::{AllocError, Global};
 use std::marker::Model;
@@ -32,8 +31,8 @@ impl Model for PlainPipe {
     ghost Value = { Run };
 
     ghost view = { λ p. record {
-        terms = record { size = p.size; depth = p.depth; number = p.number };
-        ends = record { a = p.a; b = p.b }
+      terms = record { size = p.size; depth = p.depth; number = p.number };
+      ends = record { a = p.a; b = p.b };
     } };
 }
 
