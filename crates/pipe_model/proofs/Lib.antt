@@ -15,3 +15,4 @@ mod PartExamples
 pub mod FewSnapshots
 pub mod Lasting
 pub mod Unswallowed
+pub mod ToldLast
