@@ -1,3 +1,12 @@
+mod Written
+mod FirstConnection
+mod CloseAndReuse
+mod MoveToSecondLink
+mod GapIsFound
+mod KeyIsAskedAgain
+mod RawClientIsAccepted
+mod FaultyBytesStay
+mod LawfulSteps
 pub mod Chains
 pub mod Facts
 pub mod Items

@@ -2,24 +2,13 @@
 -- A reader learns here what finish, close and abort do and are told, what a peer's abort, a gap and the end of the group
 -- do, and how the last message of an end leads it on.
 use Rattle.std.specs.Prelude.{ℕ, Bool, true, false, if◌then◌else◌, Option, Some, None}
+pub use Rattle.pipe_model.specs.declared.closing.Phase.{Phase}
+pub use Rattle.pipe_model.specs.declared.closing.Phase.TheVariants.{Open, Finished, Closing, ClosePosted, CloseDone, Resetting, AbortPosted, AbortDone, GroupGone}
 use Rattle.pipe_model.specs.declared.snapshot.Snapshot.{Snapshot}
 use Rattle.pipe_model.specs.declared.reply.ResetCause.{ResetCause}
 use Rattle.pipe_model.specs.declared.reply.ResetCause.TheVariants.{OwnAbort, NoLiveLink}
 use Rattle.pipe_model.specs.declared.reply.Reply.{Reply}
 use Rattle.pipe_model.specs.declared.reply.Reply.TheVariants.{Ended, Done}
-
--- open; finished; closed by its application, with closed not yet posted, posted, or completed; reset for a cause, with
--- aborted not yet posted, posted, or completed; reset with its group
-pub data Phase : Type 0 where
-  Open : Phase
-  Finished : Phase
-  Closing : Phase
-  ClosePosted : Phase
-  CloseDone : Phase
-  Resetting : ResetCause → Phase
-  AbortPosted : ResetCause → Phase
-  AbortDone : ResetCause → Phase
-  GroupGone : ℕ → Phase
 
 -- why an end is reset
 abbrev pub cause_of : Phase → Option ResetCause

@@ -6,18 +6,12 @@ use Rattle.smc_num.specs.declared.LinkPhase.{LinkPhase}
 use Rattle.smc_num.specs.declared.LinkPhase.TheVariants.{Live}
 use Rattle.smc_num.specs.Names.{same_link, has_link, no_link, head}
 use Rattle.smc_num.specs.Numbers.{wire_number}
+pub use Rattle.pipe_model.specs.declared.sent.Sent.{Sent}
 use Rattle.pipe_model.specs.declared.snapshot.Snapshot.{Snapshot}
 use Rattle.pipe_model.specs.declared.reply.ResetCause.{ResetCause}
 use Rattle.pipe_model.specs.declared.reply.ResetCause.TheVariants.{PeerAbort, Gap}
 use Rattle.pipe_model.specs.Snapshot.{first_snapshot, tells_same, is_last, shows_gap}
 use Rattle.pipe_model.specs.Closing.{Phase, Open, cause_of, is_closing, is_group_gone, struck, ended_with, after_posting, after_completing, after_moving, may_move}
-
--- a CDC message that an end posted on a link: a validation or a snapshot, with the bytes from a place up to the told count
-pub record Sent : Type 0 where
-  pub link : LinkId
-  pub check : Bool
-  pub from : ℕ
-  pub snapshot : Snapshot
 
 -- one end: whether it is established, its link, the live links of its group, lowest slot first, and whether its group stands;
 -- all bytes that it accepted, and how many bytes of its peer it has read; the snapshot last taken from its peer, its own

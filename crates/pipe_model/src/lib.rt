@@ -9,21 +9,29 @@
 //! connection, or the history before it, gives, and nothing else is posted.
 #![tactic(auto)]
 
+mod closing;
 mod entry;
 mod event;
 mod flow;
+mod laws;
 mod pipe_laws;
+mod plain;
 mod post;
 mod reply;
+mod sent;
 mod setup;
 mod snapshot;
 mod verdict;
 
 pub use cdc_wire::CdcMessage;
 pub use clc_wire::{ClcFault, ClcMessage, Offer, Proposal, Refusal};
+pub use closing::Phase;
 pub use entry::{Entry, StepFault};
 pub use event::{End, Event};
 pub use flow::{FlowStep, KeyPhase, LinkView};
+pub use laws::{
+    calls_are_told_by_the_pipe, each_entry_is_a_lawful_step, equal_parts_are_told_the_same,
+};
 pub use llc_wire::{KeyToken, LlcMessage, NewKey};
 pub use pipe_laws::{
     an_end_that_is_over_is_shut, closed_is_told_behind_all_bytes, counts_fit,
@@ -34,8 +42,10 @@ pub use pipe_laws::{
     the_next_snapshot_is_within_the_distances, the_next_snapshot_may_be_taken,
     the_oldest_snapshot_completes, told_bytes_have_landed, what_shows_no_gap_was_taken,
 };
+pub use plain::{PlainCall, PlainEnd, PlainPipe, PlainTold};
 pub use post::{Placed, Post, PostRef, Posts};
 pub use reply::{Hold, Lack, Reply, ResetCause, SentKind};
+pub use sent::Sent;
 pub use setup::{Room, Setup};
 pub use smc_num::{Cursor, LinkId, LinkPhase, Side};
 pub use snapshot::Snapshot;

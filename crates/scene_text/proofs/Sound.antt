@@ -5,9 +5,9 @@ use Rattle.std.specs.Prelude.{nat_le, ◌&&◌}
 use Rattle.std.proofs.lemmas.Bool.{ltb-true, leb-true, and_parts}
 use Rattle.std.proofs.lemmas.List.{length-append}
 use Rattle.std.proofs.lemmas.List.Elements.{All-nil, All-push, All-weaker}
-use Rattle.pipe_model.specs.declared.Setup.{Setup}
-use Rattle.pipe_model.specs.declared.Event.{Event}
-use Rattle.pipe_model.specs.declared.Event.TheVariants.{Open, Raw, Write, Read, Finish, Close, Abort, Await, Clc, Deliver, Complete, Swallow, Cut, Heal, Report, Move, Grow, Test, Trim}
+use Rattle.pipe_model.specs.declared.setup.Setup.{Setup}
+use Rattle.pipe_model.specs.declared.event.Event.{Event}
+use Rattle.pipe_model.specs.declared.event.Event.TheVariants.{Open, Raw, Write, Read, Finish, Close, Abort, Await, Clc, Deliver, Complete, Swallow, Cut, Heal, Report, Move, Grow, Test, Trim}
 use Rattle.pipe_model.specs.Settings.{default_setup, default_room}
 use Rattle.pipe_model.specs.Fits.{Fits}
 use Rattle.scene_text.specs.declared.faults.LineKind.{LineKind}

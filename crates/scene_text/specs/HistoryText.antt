@@ -1,31 +1,21 @@
 -- The text of a history.
--- A reader learns here what the program prints: a line an entry, a line a socket, and how it ended.
-use Rattle.std.specs.Prelude.{ℕ, zero, suc, ◌+◌, ◌==◌, ◌&&◌, Bool, true, false, List, [], ◌∷◌, ◌++◌, codes, take, drop, slice_index_or, length, Option, Some, None, if◌then◌else◌}
+-- A reader learns here what the program prints: a line an entry and below it one for each of its
+-- posts, a line a socket, and how it ended.
+use Rattle.std.specs.Prelude.{ℕ, zero, suc, ◌+◌, ◌==◌, ◌&&◌, Bool, true, false, List, [], ◌∷◌, ◌++◌, codes, slice_index_or, length, Option, Some, None, if◌then◌else◌}
 use Rattle.std.specs.List.{flat_map, sum_by, list_any}
 use Rattle.std.specs.Fmt.{decimal}
 use Rattle.smc_num.specs.declared.Side.{Side}
 use Rattle.smc_num.specs.declared.Side.TheVariants.{A, B}
-use Rattle.pipe_model.specs.declared.End.{End}
-use Rattle.pipe_model.specs.declared.Entry.{Entry}
-use Rattle.pipe_model.specs.declared.Event.{Event}
-use Rattle.pipe_model.specs.declared.Event.TheVariants.{Open, Raw, Write, Read, Finish, Close, Abort, Await, Clc, Deliver, Complete, Swallow, Cut, Heal, Report, Move, Grow, Test, Trim}
-use Rattle.pipe_model.specs.declared.Reply.{Reply}
-use Rattle.pipe_model.specs.declared.Reply.TheVariants.{Opened, NameUsed, NoSocket, Wrote, Full, Bytes, Empty, Landed, Idle}
-use Rattle.pipe_model.specs.declared.StepFault.{StepFault}
-use Rattle.pipe_model.specs.declared.StepFault.TheVariants.{Spent, BytesSpent}
-use Rattle.scene_text.specs.Spelling.{bytes_text, name_text, event_text, payload_part}
-
--- what an actor was told, where these bytes were handed out in all
-abbrev pub reply_text : List ℕ → Reply → List ℕ
-reply_text heard Opened = codes "opened"
-reply_text heard NameUsed = codes "name used"
-reply_text heard NoSocket = codes "no socket"
-reply_text heard (Wrote n) = codes "wrote " ++ decimal n
-reply_text heard Full = codes "full"
-reply_text heard (Bytes from len) = codes "data " ++ bytes_text (payload_part heard from len)
-reply_text heard Empty = codes "empty"
-reply_text heard (Landed at) = codes "landed " ++ (decimal at.entry ++ (codes "." ++ decimal at.post))
-reply_text heard Idle = codes "idle"
+use Rattle.pipe_model.specs.declared.entry.Entry.{Entry}
+use Rattle.pipe_model.specs.declared.event.Event.{Event}
+use Rattle.pipe_model.specs.declared.event.Event.TheVariants.{Open, Raw, Write, Read, Finish, Close, Abort, Await, Clc, Deliver, Complete, Swallow, Cut, Heal, Report, Move, Grow, Test, Trim}
+use Rattle.pipe_model.specs.declared.reply.Reply.{Reply}
+use Rattle.pipe_model.specs.declared.reply.Reply.TheVariants.{Opened, Wrote, Bytes, Declined}
+use Rattle.pipe_model.specs.declared.entry.StepFault.{StepFault}
+use Rattle.pipe_model.specs.declared.entry.StepFault.TheVariants.{Spent, BytesSpent}
+use Rattle.scene_text.specs.Spelling.{name_text, event_text}
+use Rattle.scene_text.specs.ReplyText.{reply_text}
+use Rattle.scene_text.specs.PostText.{post_line}
 
 -- the name of an actor: actor 0 is the scene's own
 abbrev pub actor_text : List (List ℕ) → ℕ → List ℕ
@@ -46,9 +36,9 @@ who_text actors n actor = decimal n ++ (codes " " ++ (actor_text actors actor ++
 abbrev pub what_text : Printed → Entry → List ℕ
 what_text p e = event_text p.names p.payload e.event ++ (codes ": " ++ (reply_text p.heard e.reply ++ codes "\n"))
 
--- the n-th entry: its number, the actor, the event and the reply
+-- the n-th entry: its number, the actor, the event and the reply, and then its posts
 abbrev pub entry_text : Printed → ℕ → Entry → List ℕ
-entry_text p n e = who_text p.actors n e.actor ++ what_text p e
+entry_text p n e = who_text p.actors n e.actor ++ (what_text p e ++ flat_map (post_line p.names) e.posts)
 
 -- entries, of which the first has number n
 abbrev pub entries_text : Printed → ℕ → List Entry → List ℕ
@@ -77,17 +67,16 @@ socket_of Grow = None
 socket_of (Test side slot) = None
 socket_of (Trim side) = None
 
--- whether a socket comes into being where its event is told this
-abbrev pub begins_socket : Reply → Bool
-begins_socket Opened = true
-begins_socket NameUsed = false
-begins_socket NoSocket = false
-begins_socket (Wrote n) = false
-begins_socket Full = false
-begins_socket (Bytes from len) = false
-begins_socket Empty = false
-begins_socket (Landed at) = false
-begins_socket Idle = false
+-- whether an event is bytes of a raw client that were taken
+abbrev pub is_raw_write : Event → Reply → Bool
+is_raw_write (Raw s at len) (Wrote n) = true
+is_raw_write _ _ = false
+
+-- whether a socket comes into being, or is declined, where its event is told this
+abbrev pub begins_socket : Event → Reply → Bool
+begins_socket event Opened = true
+begins_socket event (Declined lack) = true
+begins_socket event reply = is_raw_write event reply
 
 -- one socket more, unless it is listed
 abbrev pub listed_with : List ℕ → Option ℕ → List ℕ
@@ -95,7 +84,7 @@ listed_with sockets None = sockets
 listed_with sockets (Some s) = if list_any (λ t. t == s) sockets then sockets else sockets ++ s ∷ []
 
 abbrev pub listed_after : List ℕ → Entry → List ℕ
-listed_after sockets e = if begins_socket e.reply then listed_with sockets (socket_of e.event) else sockets
+listed_after sockets e = if begins_socket e.event e.reply then listed_with sockets (socket_of e.event) else sockets
 
 -- the sockets in the order in which they came into being, behind those that are listed already
 abbrev pub sockets_after : List ℕ → List Entry → List ℕ

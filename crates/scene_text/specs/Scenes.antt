@@ -4,10 +4,10 @@ use Rattle.std.specs.Prelude.{◌≡◌, ℕ, ◌≤◌, max, nat_lt, List, [], 
 use Rattle.std.specs.List.{position_or_len, All}
 use Rattle.std.specs.Str.{bytes_eq}
 use Rattle.indexmap.specs.IndexMap.{IndexMap, keys}
-use Rattle.pipe_model.specs.declared.Setup.{Setup}
-use Rattle.pipe_model.specs.declared.Room.{Room}
-use Rattle.pipe_model.specs.declared.End.{End}
-use Rattle.pipe_model.specs.declared.Event.TheVariants as events
+use Rattle.pipe_model.specs.declared.setup.Setup.{Setup}
+use Rattle.pipe_model.specs.declared.setup.Room.{Room}
+use Rattle.pipe_model.specs.declared.event.End.{End}
+use Rattle.pipe_model.specs.declared.event.Event.TheVariants as events
 use Rattle.pipe_model.specs.Settings.{default_setup, default_room}
 use Rattle.pipe_model.specs.Fits.{Fits}
 use Rattle.scene_text.specs.declared.faults.LineFault.{LineFault}

@@ -5,9 +5,9 @@ use Rattle.std.specs.List.{join_by}
 use Rattle.std.specs.Fmt.{decimal}
 use Rattle.smc_num.specs.declared.Side.{Side}
 use Rattle.smc_num.specs.declared.Side.TheVariants.{A, B}
-use Rattle.pipe_model.specs.declared.End.{End}
-use Rattle.pipe_model.specs.declared.Event.{Event}
-use Rattle.pipe_model.specs.declared.Event.TheVariants.{Open, Raw, Write, Read, Finish, Close, Abort, Await, Clc, Deliver, Complete, Swallow, Cut, Heal, Report, Move, Grow, Test, Trim}
+use Rattle.pipe_model.specs.declared.event.End.{End}
+use Rattle.pipe_model.specs.declared.event.Event.{Event}
+use Rattle.pipe_model.specs.declared.event.Event.TheVariants.{Open, Raw, Write, Read, Finish, Close, Abort, Await, Clc, Deliver, Complete, Swallow, Cut, Heal, Report, Move, Grow, Test, Trim}
 
 -- a run of one byte: the byte, and how many there are
 pub record Run : Type 0 where

@@ -1,5 +1,5 @@
 -- What is due for an input, and what a status says once the text is written.
-use Rattle.std.proofs.Common.{◌≡◌, ◌∙◌, ℕ, ◌+◌, ◌<◌, ◌≤◌, ◌⊎◌, inl, inr, Bool, true, false, nat_lt, List, [], ◌++◌, length, take, codes, refl, sym, ap, subst, arith, Option, Some, None, length-append}
+use Rattle.std.proofs.Common.{◌≡◌, ◌∙◌, ℕ, ◌<◌, ◌≤◌, inl, inr, nat_lt, List, [], ◌++◌, length, take, codes, refl, sym, ap, subst, arith, Option, Some, None, length-append}
 use Rattle.std.proofs.lemmas.Bool.{cond-true, cond-false}
 use Rattle.std.proofs.lemmas.Bool.Decides.{nat_tests}
 use Rattle.byte_port.specs.Causes.{IsRead, Grew}
@@ -8,7 +8,7 @@ use Rattle.smcr_cli.specs.declared.top.Status.{Status}
 use Rattle.smcr_cli.specs.declared.top.Status.TheVariants as statuses
 use Rattle.smcr_cli.specs.declared.top.TheConstants.{MOST_INPUT_BYTES}
 use Rattle.smcr_cli.specs.Answers.{Answer, IsDue}
-use Rattle.smcr_cli.specs.Top.{command_of, answer_to, served, due_answer, Finishes, Gives, GivesUp, Tells}
+use Rattle.smcr_cli.specs.Top.{command_of, answer_to, served, due_answer, Finishes, Gives, Tells}
 
 -- there is an input that a source may have left
 pub some_input : (left : Option (List ℕ)) → (input : List ℕ) × IsRead left input

@@ -1,6 +1,9 @@
 -- Parts that were appended one after another make one text.
 use Rattle.std.proofs.Common.{◌≡◌, ◌∙◌, ℕ, List, ◌++◌, ap, sym, append_assoc}
 
+pub two_parts : (o h new a b text : List ℕ) → h ≡ o ++ a → text ≡ a ++ b → new ≡ h ++ b → new ≡ o ++ text
+two_parts o h new a b text e is n = n ∙ ap (λ x. x ++ b) e ∙ append_assoc o a b ∙ ap (λ x. o ++ x) (sym is)
+
 pub three_parts : (o h t new a b c text : List ℕ) → h ≡ o ++ a → t ≡ h ++ b → text ≡ a ++ (b ++ c) → new ≡ t ++ c → new ≡ o ++ text
 three_parts o h t new a b c text e f is n =
     n ∙ ap (λ x. x ++ c) (f ∙ ap (λ x. x ++ b) e) ∙ append_assoc (o ++ a) b c ∙ append_assoc o a (b ++ c) ∙ ap (λ x. o ++ x) (sym is)

@@ -1,8 +1,8 @@
 -- Runs, line by line and pump by pump.
 use Rattle.std.proofs.Common.{◌≡◌, ◌∙◌, ℕ, ◌+◌, ◌-◌, ◌<◌, refl, ap, sym, arith, Option, Some, None, Ok, Err, suc}
-use Rattle.pipe_model.specs.declared.Event.{Event}
-use Rattle.pipe_model.specs.declared.Reply.{Reply}
-use Rattle.pipe_model.specs.declared.StepFault.{StepFault}
+use Rattle.pipe_model.specs.declared.event.Event.{Event}
+use Rattle.pipe_model.specs.declared.reply.Reply.{Reply}
+use Rattle.pipe_model.specs.declared.entry.StepFault.{StepFault}
 use Rattle.world_core.specs.Steps.{Seen, stepped, refusal, reply_to, answer_or, world_or, some_answer, answer_of_next, world_after_next, next_event, after_step, pump_answer, after_pump}
 use Rattle.smcr_cli.specs.Runs.{Ran, ended, stopped, pumped, pumps, SameScene}
 

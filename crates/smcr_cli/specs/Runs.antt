@@ -1,8 +1,8 @@
 -- What running the lines of a scene comes to.
 -- A reader learns here that the history of a scene is a function of its lines.
 use Rattle.std.specs.Prelude.{◌≡◌, ℕ, zero, suc, List, [], ◌∷◌, Option, Some, None, Result, Ok, Err}
-use Rattle.pipe_model.specs.declared.Reply.{Reply}
-use Rattle.pipe_model.specs.declared.StepFault.{StepFault}
+use Rattle.pipe_model.specs.declared.reply.Reply.{Reply}
+use Rattle.pipe_model.specs.declared.entry.StepFault.{StepFault}
 use Rattle.scene_text.specs.declared.scenes.SceneWhat.{SceneWhat}
 use Rattle.scene_text.specs.declared.scenes.SceneWhat.TheVariants.{One, Pump}
 use Rattle.scene_text.specs.declared.scenes.SceneLine.{SceneLine}

@@ -5,14 +5,14 @@ use Rattle.std.specs.Prelude.{ℕ, ◌/◌, ◌%◌, Bool, List, [], ◌∷◌, 
 use Rattle.std.specs.List.{flat_map}
 use Rattle.std.specs.Fmt.{decimal}
 use Rattle.scene_text.specs.Spelling.{hex_byte}
-use Rattle.smc_num.specs.declared.Cursor.{Cursor}
+use Rattle.scene_text.specs.Fields.{number_field, two_numbers, flag_text, head_text, contact_text, cursor_text}
+use Rattle.scene_text.specs.ReplyText.{fault_text}
 use Rattle.clc_wire.specs.declared.proposal.Proposal.{Proposal as ProposalFields}
 use Rattle.clc_wire.specs.declared.offer.Offer.{Offer}
 use Rattle.clc_wire.specs.declared.refusal.Refusal.{Refusal}
 use Rattle.clc_wire.specs.declared.message.ClcMessage.{ClcMessage}
 use Rattle.clc_wire.specs.declared.message.ClcMessage.TheVariants.{Proposal, Accept, Confirm, Decline}
 use Rattle.clc_wire.specs.declared.fault.ClcFault.{ClcFault}
-use Rattle.clc_wire.specs.declared.fault.ClcFault.TheVariants as clc_faults
 use Rattle.llc_wire.specs.declared.LlcMessage.{LlcMessage}
 use Rattle.llc_wire.specs.declared.LlcMessage.TheVariants.{ConfirmLink, AddLink, AddKeys, DeleteLink, ConfirmRkey, TestLink, DeleteRkey}
 use Rattle.llc_wire.specs.declared.LlcFault.{LlcFault}
@@ -27,25 +27,14 @@ use Rattle.cdc_wire.specs.declared.CdcFault.TheVariants as cdc_faults
 abbrev pub hex_text : List ℕ → List ℕ
 hex_text bytes = flat_map hex_byte bytes
 
--- a field: its word, with the spaces around it, and bytes, a byte or a number
+-- a field: its word, with the spaces around it, and bytes or a byte
 abbrev pub hex_field : List ℕ → List ℕ → List ℕ
 hex_field word bytes = word ++ hex_text bytes
 
 abbrev pub byte_field : List ℕ → ℕ → List ℕ
 byte_field word byte = word ++ hex_byte byte
 
-abbrev pub number_field : List ℕ → ℕ → List ℕ
-number_field word number = word ++ decimal number
-
--- two number fields, one after the other
-unfoldable pub two_numbers : List ℕ → ℕ → List ℕ → ℕ → List ℕ
-two_numbers word number second_word second = number_field word number ++ number_field second_word second
-
--- a word that stands where its flag is set
-abbrev pub flag_text : List ℕ → Bool → List ℕ
-flag_text word on = if on then word else []
-
--- two such words, one after the other
+-- two words, each where its flag is set
 unfoldable pub two_flags : List ℕ → Bool → List ℕ → Bool → List ℕ
 two_flags word on second_word second = flag_text word on ++ flag_text second_word second
 
@@ -77,10 +66,6 @@ element_text o = two_numbers (codes " qp ") o.qp (codes " key ") o.key ++ two_nu
 unfoldable pub buffer_text : Offer → List ℕ
 buffer_text o = two_numbers (codes " size ") o.size (codes " mtu ") o.mtu ++ two_numbers (codes " at ") o.address (codes " psn ") o.psn
 
--- whether the contact is the first of the two peers
-abbrev pub contact_text : Bool → List ℕ
-contact_text first = if first then codes " first" else codes " later"
-
 -- an Accept or a Confirm, by its word
 abbrev pub offer_text : List ℕ → Offer → List ℕ
 offer_text word o = word ++ (contact_text o.first ++ (peer_text o.peer o.gid o.mac ++ (element_text o ++ buffer_text o)))
@@ -99,16 +84,7 @@ clc_text (Confirm o) = offer_text (codes "confirm") o
 clc_text (Decline r) = decline_text r
 
 abbrev pub clc_fault_text : ClcFault → List ℕ
-clc_fault_text clc_faults.Short = codes "fault short"
-clc_fault_text (clc_faults.BadEye place) = number_field (codes "fault bad eye ") place
-clc_fault_text (clc_faults.BadType value) = number_field (codes "fault bad type ") value
-clc_fault_text (clc_faults.BadLength value) = number_field (codes "fault bad length ") value
-clc_fault_text (clc_faults.BadVersion value) = number_field (codes "fault bad version ") value
-clc_fault_text clc_faults.BadTrailer = codes "fault bad trailer"
-
--- a word, and whether the message is a reply
-unfoldable pub head_text : List ℕ → Bool → List ℕ
-head_text word reply = word ++ flag_text (codes " reply") reply
+clc_fault_text fault = codes "fault " ++ fault_text fault
 
 -- one end of a link: its port and queue pair, and the number of the link
 unfoldable pub link_text : List ℕ → List ℕ → ℕ → ℕ → List ℕ
@@ -158,10 +134,6 @@ abbrev pub llc_fault_text : LlcFault → List ℕ
 llc_fault_text (llc_faults.BadType value) = number_field (codes "fault bad type ") value
 llc_fault_text (llc_faults.BadLength value) = number_field (codes "fault bad length ") value
 llc_fault_text (llc_faults.BadCount value) = number_field (codes "fault bad count ") value
-
--- a cursor: how often it has wrapped, and its count
-unfoldable pub cursor_text : List ℕ → Cursor → List ℕ
-cursor_text word c = number_field word c.wrap ++ number_field (codes "/") c.count
 
 abbrev pub cdc_text : CdcMessage → List ℕ
 cdc_text m =

@@ -1,14 +1,14 @@
 -- What the program answers and writes.
 -- A reader learns here what each list of words and each input gets, and what stands in its place
 -- where memory, a read or a write fails.
-use Rattle.std.specs.Prelude.{◌≡◌, ℕ, nat_lt, Bool, true, false, if◌then◌else◌, List, [], ◌∷◌, ◌++◌, length, codes, ◌⊎◌, Option, Some, None, Result, Ok, Err, take}
+use Rattle.std.specs.Prelude.{◌≡◌, ℕ, nat_lt, if◌then◌else◌, List, [], ◌∷◌, length, codes, ◌⊎◌, Option, Some, None, Result, Ok, Err, take}
 use Rattle.std.specs.Str.{bytes_eq}
 use Rattle.byte_port.specs.Causes.{Grew, IsRead}
-use Rattle.pipe_model.specs.declared.StepFault.{StepFault}
+use Rattle.pipe_model.specs.declared.entry.StepFault.{StepFault}
 use Rattle.scene_text.specs.declared.faults.SceneFault.{SceneFault}
 use Rattle.scene_text.specs.Scenes.{PlainScene}
 use Rattle.scene_text.specs.Grammar.{scene_of}
-use Rattle.scene_text.specs.HistoryText.{Printed, history_text}
+use Rattle.scene_text.specs.HistoryText.{history_text}
 use Rattle.smcr_cli.specs.declared.top.Command.{Command}
 use Rattle.smcr_cli.specs.declared.top.Command.TheVariants.{Run, Show}
 use Rattle.smcr_cli.specs.declared.top.Status.{Status}

@@ -5,10 +5,14 @@
 //! for its cause. `main` only hands it the real words, standard input and standard output.
 #![tactic(auto)]
 
+mod fields;
 mod print;
+mod print_posts;
+mod print_replies;
 mod run;
 mod show;
 mod show_text;
+mod spell;
 mod top;
 
 use byte_port::{ReaderSource, WriterSink};
@@ -47,5 +51,7 @@ fn main(rt: HostRuntime) -> ExitCode {
     ExitCode::from(run_program(&rt) as u8)
 }
 
+#[cfg(test)]
+mod print_tests;
 #[cfg(test)]
 mod tests;

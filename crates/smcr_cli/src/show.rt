@@ -10,10 +10,10 @@ ghost use Rattle.smcr_cli.specs.ShowLines.{protocol_of, bytes_of, frame_of, clc_
 ghost use Rattle.llc_wire.specs.Llc.{llc_read};
 ghost use Rattle.cdc_wire.specs.Cdc.{cdc_read};
 
-use crate::print::push_text;
 use crate::show_text::{
     push_cdc, push_cdc_fault, push_clc, push_clc_fault, push_llc, push_llc_fault,
 };
+use crate::spell::push_text;
 use crate::top::{Status, push_refusal};
 use cdc_wire::{CdcFault, CdcMessage, read_cdc};
 use clc_wire::read_clc;

@@ -1,10 +1,14 @@
 //! The texts of messages, appended to one buffer.
 ghost use Rattle.std.specs.Prelude.{◌≡◌, ◌++◌, OnOk};
 ghost use Rattle.std.specs.List.{flat_map};
-ghost use Rattle.smcr_cli.specs.ShowText.{hex_text, hex_field, byte_field, number_field, two_numbers, flag_text, two_flags, port_text, peer_text, address_text, subnet_text, proposal_text, element_text, buffer_text, contact_text, offer_text, synch_text, decline_text, clc_text, clc_fault_text, head_text, link_text, rejected_text, new_key_text, key_text, token_text, tokens_text, keys_text, llc_text, llc_fault_text, cursor_text, cdc_text, cdc_fault_text};
+ghost use Rattle.smcr_cli.specs.ShowText.{hex_text, hex_field, byte_field, two_flags, port_text, peer_text, address_text, subnet_text, proposal_text, element_text, buffer_text, offer_text, synch_text, decline_text, clc_text, clc_fault_text, link_text, rejected_text, new_key_text, key_text, token_text, tokens_text, keys_text, llc_text, llc_fault_text, cdc_text, cdc_fault_text};
 
-use crate::print::{push_hex, push_number, push_text};
-use cdc_wire::{CdcFault, CdcMessage, Cursor};
+use crate::fields::{
+    push_contact, push_cursor, push_flag, push_head, push_number_field, push_two_numbers,
+};
+use crate::print_replies::push_fault;
+use crate::spell::{push_hex, push_number, push_text};
+use cdc_wire::{CdcFault, CdcMessage};
 use clc_wire::{ClcFault, ClcMessage, Offer, Proposal, Refusal};
 use llc_wire::{KeyToken, LlcFault, LlcMessage, NewKey};
 use std::alloc::AllocError;
@@ -33,36 +37,6 @@ fn push_byte_field(out: &mut Vec<u8>, word: &str, byte: u8) -> Result<(), AllocE
 {
     push_text(out, word)?;
     push_hex(out, byte)
-}
-
-/// Appends a word and a number.
-fn push_number_field(out: &mut Vec<u8>, word: &str, number: u64) -> Result<(), AllocError>
-    ensures { OnOk result (out.new.items ≡ out.old.items ++ number_field word.now number) }
-{
-    push_text(out, word)?;
-    push_number(out, number)
-}
-
-/// Appends two words, each with its number.
-#[tactic(auto, unfolding(crate::specs::ShowText::two_numbers))]
-fn push_two_numbers(
-    out: &mut Vec<u8>,
-    word: &str,
-    number: u64,
-    second_word: &str,
-    second: u64,
-) -> Result<(), AllocError>
-    ensures { OnOk result (out.new.items ≡ out.old.items ++ two_numbers word.now number second_word.now second) }
-{
-    push_number_field(out, word, number)?;
-    push_number_field(out, second_word, second)
-}
-
-/// Appends a word where its flag is set.
-fn push_flag(out: &mut Vec<u8>, word: &str, on: bool) -> Result<(), AllocError>
-    ensures { OnOk result (out.new.items ≡ out.old.items ++ flag_text word.now on) }
-{
-    if on { push_text(out, word) } else { Ok(()) }
 }
 
 /// Appends two words, each where its flag is set.
@@ -154,13 +128,6 @@ fn push_buffer(out: &mut Vec<u8>, offer: &Offer) -> Result<(), AllocError>
     push_two_numbers(out, " at ", offer.address, " psn ", offer.psn as u64)
 }
 
-/// Appends whether a contact is the first.
-fn push_contact(out: &mut Vec<u8>, first: bool) -> Result<(), AllocError>
-    ensures { OnOk result (out.new.items ≡ out.old.items ++ contact_text first) }
-{
-    push_text(out, if first { " first" } else { " later" })
-}
-
 /// Appends an Accept or a Confirm.
 fn push_offer(out: &mut Vec<u8>, word: &str, offer: &Offer) -> Result<(), AllocError>
     ensures { OnOk result (out.new.items ≡ out.old.items ++ offer_text word.now offer.now) }
@@ -205,27 +172,8 @@ pub fn push_clc(out: &mut Vec<u8>, message: &ClcMessage) -> Result<(), AllocErro
 pub fn push_clc_fault(out: &mut Vec<u8>, fault: ClcFault) -> Result<(), AllocError>
     ensures { OnOk result (out.new.items ≡ out.old.items ++ clc_fault_text fault) }
 {
-    match fault {
-        ClcFault::Short => push_text(out, "fault short"),
-        ClcFault::BadEye { place } => push_number_field(out, "fault bad eye ", place as u64),
-        ClcFault::BadType { value } => push_number_field(out, "fault bad type ", value as u64),
-        ClcFault::BadLength { value } => push_number_field(out, "fault bad length ", value as u64),
-        ClcFault::BadVersion { value } => push_number_field(
-            out,
-            "fault bad version ",
-            value as u64,
-        ),
-        ClcFault::BadTrailer => push_text(out, "fault bad trailer"),
-    }
-}
-
-/// Appends a word, and whether the message is a reply.
-#[tactic(auto, unfolding(crate::specs::ShowText::head_text))]
-fn push_head(out: &mut Vec<u8>, word: &str, reply: bool) -> Result<(), AllocError>
-    ensures { OnOk result (out.new.items ≡ out.old.items ++ head_text word.now reply) }
-{
-    push_text(out, word)?;
-    push_flag(out, " reply", reply)
+    push_text(out, "fault ")?;
+    push_fault(out, fault)
 }
 
 /// Appends one end of a link.
@@ -412,15 +360,6 @@ pub fn push_llc_fault(out: &mut Vec<u8>, fault: LlcFault) -> Result<(), AllocErr
         LlcFault::BadLength { value } => push_number_field(out, "fault bad length ", value as u64),
         LlcFault::BadCount { value } => push_number_field(out, "fault bad count ", value as u64),
     }
-}
-
-/// Appends a word and a cursor.
-#[tactic(auto, unfolding(crate::specs::ShowText::cursor_text))]
-fn push_cursor(out: &mut Vec<u8>, word: &str, cursor: Cursor) -> Result<(), AllocError>
-    ensures { OnOk result (out.new.items ≡ out.old.items ++ cursor_text word.now cursor) }
-{
-    push_number_field(out, word, cursor.wrap as u64)?;
-    push_number_field(out, "/", cursor.count as u64)
 }
 
 /// Appends a CDC message.

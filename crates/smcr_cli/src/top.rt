@@ -7,9 +7,10 @@ ghost use Rattle.smcr_cli.specs.Runs.{run_of};
 ghost use Rattle.smcr_cli.specs.Answers.{kind_text, refused_text, refusal_text, IsDue};
 ghost use Rattle.smcr_cli.specs.Top.{command_named, command_of, answer_to, ran_answer, run_answer, Finishes, Tells};
 
-use crate::print::{Texts, push_history, push_number, push_text};
+use crate::print::{Texts, push_history};
 use crate::run::run_lines;
 use crate::show::show;
+use crate::spell::{push_number, push_text};
 use byte_port::{InputFault, Sink, Source, read_input, write_all};
 use scene_text::{LineKind, Scene, SceneFault, read_scene};
 use std::alloc::{AllocError, Global};

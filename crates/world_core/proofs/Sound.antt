@@ -7,9 +7,9 @@ use Rattle.world_core.specs.declared.connection.Batch.{Batch}
 use Rattle.world_core.specs.declared.connection.ConnEnd.{ConnEnd}
 use Rattle.world_core.specs.declared.connection.Conn.{Conn}
 use Rattle.world_core.specs.Connection.{window, wrote, unread, has_read, handed_over, write_count, is_due, settled, landing, delivered, IsUnderWay, IsSoundWay, IsCounted, IsSoundPair, IsSound, peer_of}
-use Rattle.pipe_model.specs.declared.Event.{Event}
-use Rattle.pipe_model.specs.declared.Event.TheVariants.{Open, Write, Read, Deliver}
-use Rattle.pipe_model.specs.declared.StepFault.{StepFault}
+use Rattle.pipe_model.specs.declared.event.Event.{Event}
+use Rattle.pipe_model.specs.declared.event.Event.TheVariants.{Open, Write, Read, Deliver}
+use Rattle.pipe_model.specs.declared.entry.StepFault.{StepFault}
 use Rattle.std.proofs.lemmas.Bool.Decides.{nat_tests}
 use Rattle.world_core.specs.Steps.{Seen, written, read_size, handed, handed_size, moved, refusal, after_write, after_read, after_deliver}
 

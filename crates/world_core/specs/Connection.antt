@@ -4,8 +4,8 @@ use Rattle.std.specs.Prelude.{◌≡◌, ℕ, ◌+◌, ◌-◌, ◌*◌, ◌%◌
 use Rattle.circular_buffer.specs.Buffer.{buffer}
 use Rattle.smc_num.specs.declared.Side.{Side}
 use Rattle.smc_num.specs.declared.Side.TheVariants.{A, B}
-use Rattle.pipe_model.specs.declared.Reply.{Reply}
-use Rattle.pipe_model.specs.declared.Reply.TheVariants.{Wrote, Full, Bytes, Empty, Landed, Idle}
+use Rattle.pipe_model.specs.declared.reply.Reply.{Reply}
+use Rattle.pipe_model.specs.declared.reply.Reply.TheVariants.{Wrote, Full, Bytes, Empty, Landed, Idle}
 use Rattle.world_core.specs.declared.connection.Snapshot.{Snapshot}
 use Rattle.world_core.specs.declared.connection.Batch.{Batch}
 use Rattle.world_core.specs.declared.connection.ConnEnd.{ConnEnd}

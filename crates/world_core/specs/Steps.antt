@@ -3,15 +3,15 @@
 use Rattle.std.specs.Prelude.{◌≡◌, ℕ, ◌+◌, ◌^◌, ◌≤◌, ◌<◌, nat_le, nat_lt, min, true, false, if◌then◌else◌, List, [], ◌∷◌, ◌++◌, length, take, drop, Option, Some, None, Result, Ok, Err}
 use Rattle.smc_num.specs.declared.Side.{Side}
 use Rattle.smc_num.specs.declared.Side.TheVariants.{A, B}
-use Rattle.pipe_model.specs.declared.Setup.{Setup}
-use Rattle.pipe_model.specs.declared.Room.{Room}
-use Rattle.pipe_model.specs.declared.Entry.{Entry}
-use Rattle.pipe_model.specs.declared.Event.{Event}
-use Rattle.pipe_model.specs.declared.Event.TheVariants.{Open, Write, Read, Deliver}
-use Rattle.pipe_model.specs.declared.Reply.{Reply}
-use Rattle.pipe_model.specs.declared.Reply.TheVariants.{Opened, NameUsed, NoSocket, Idle}
-use Rattle.pipe_model.specs.declared.StepFault.{StepFault}
-use Rattle.pipe_model.specs.declared.StepFault.TheVariants.{Spent, BytesSpent}
+use Rattle.pipe_model.specs.declared.setup.Setup.{Setup}
+use Rattle.pipe_model.specs.declared.setup.Room.{Room}
+use Rattle.pipe_model.specs.declared.entry.Entry.{Entry}
+use Rattle.pipe_model.specs.declared.event.Event.{Event}
+use Rattle.pipe_model.specs.declared.event.Event.TheVariants.{Open, Write, Read, Deliver}
+use Rattle.pipe_model.specs.declared.reply.Reply.{Reply}
+use Rattle.pipe_model.specs.declared.reply.Reply.TheVariants.{Opened, NameUsed, NoSocket, Idle}
+use Rattle.pipe_model.specs.declared.entry.StepFault.{StepFault}
+use Rattle.pipe_model.specs.declared.entry.StepFault.TheVariants.{Spent, BytesSpent}
 use Rattle.world_core.specs.declared.connection.Conn.{Conn}
 use Rattle.world_core.specs.Connection.{end_of, peer_of, with_end, with_ends, fresh, write_reply, wrote, unread, read_reply, has_read, handed_over, settled, deliver_reply, delivered, is_idle, IsSound}
 
@@ -108,10 +108,10 @@ refusal w event =
 abbrev pub reply_to : Seen → Event → Reply
 reply_to w event = told (element_size w.setup) w.payload (length w.heard) event w.conn
 
--- the world with one entry more: this actor, this event, and what it was told
+-- the world with one entry more: this actor, this event, what it was told, and no posts
 abbrev pub stepped : ℕ → Event → Seen → Seen
 stepped actor event w = record w {
-  history = w.history ++ (record { actor = actor; event = event; reply = reply_to w event }) ∷ [];
+  history = w.history ++ (record { actor = actor; event = event; reply = reply_to w event; posts = [] }) ∷ [];
   heard = w.heard ++ handed event w.conn;
   conn = moved (element_size w.setup) w.payload (length w.history + 1) event w.conn;
 }

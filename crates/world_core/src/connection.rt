@@ -7,7 +7,7 @@ use circular_buffer::HeapCircularBuffer;
 use pipe_model::{PostRef, Reply, Side};
 use std::alloc::{AllocError, Global};
 
-/// What an end tells its peer (RFC 7609, section 4.5): the message's number, how many bytes the end
+/// What an end tells its peer (RFC 7609, appendix A.4): the message's number, how many bytes the end
 /// has posted so far, and how many it has read.
 #[derive(Clone, Copy, Debug, PartialEq, Eq)]
 pub struct Snapshot {

@@ -5,7 +5,7 @@ ghost use Rattle.world_core.specs.Connection.{end_of, peer_of, IsSound, IsSoundW
 ghost use Rattle.world_core.specs.Steps.{fresh_world, element_size, opens, writes, reads, written, read_size, read_bytes, after_open, after_write, after_read, after_deliver, told, moved, WritesWithin, handed, handed_size, refusal, reply_to, stepped, step_answer, after_step, next_event, pump_answer, after_pump, IsKept};
 
 use crate::connection::{Conn, deliver, push_within, read, read_count, settle, write};
-use pipe_model::{Entry, Event, Reply, Room, Setup, Side, StepFault};
+use pipe_model::{Entry, Event, Posts, Reply, Room, Setup, Side, StepFault};
 use smc_num::size_of_code;
 use std::alloc::Global;
 use std::marker::Model;
@@ -291,6 +291,7 @@ impl World {
             actor,
             event,
             reply,
+            posts: Posts::new(),
         };
         push_within(&mut self.history, made);
         reply

@@ -1,4 +1,4 @@
-use Rattle.std.proofs.Common.{◌≡◌, ◌≤◌, ℕ, List, sym, map, length, arith}
+use Rattle.std.proofs.Common.{◌≤◌, sym, map, length, arith}
 use Rattle.std.proofs.lemmas.List.{length-map}
 use Rattle.smcr_cli.proofs.Commands.{many-words}
 use Rattle.smcr_cli.proofs.top.command_of.Goals as goal

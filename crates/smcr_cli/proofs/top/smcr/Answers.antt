@@ -1,4 +1,4 @@
-use Rattle.std.proofs.Common.{◌≡◌, ◌∙◌, ◌++◌, ◌≤◌, ℕ, List, Option, Some, None, map, length, codes, sym, ap, subst, refl, Err}
+use Rattle.std.proofs.Common.{◌≡◌, ◌∙◌, ◌++◌, ℕ, List, Option, Some, None, map, codes, sym, ap, Err}
 use Rattle.smcr_cli.specs.declared.top.Status.TheVariants as statuses
 use Rattle.smcr_cli.specs.Top.{command_of, answer_to}
 use Rattle.smcr_cli.proofs.Inputs.{some_input, due-usage, due-long, due-command, told}

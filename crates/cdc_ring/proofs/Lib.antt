@@ -1,0 +1,3 @@
+pub mod Flying
+pub mod Rising
+pub mod Standing

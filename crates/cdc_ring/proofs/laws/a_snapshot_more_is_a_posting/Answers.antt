@@ -1,0 +1,5 @@
+use Rattle.cdc_ring.proofs.Flying.{a_snapshot_more_is_a_posting}
+use Rattle.cdc_ring.proofs.laws.a_snapshot_more_is_a_posting.Goals as goal
+
+pub returns : goal.returns
+returns c = a_snapshot_more_is_a_posting

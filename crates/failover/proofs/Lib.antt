@@ -1,0 +1,2 @@
+pub mod KnownLinks
+pub mod Shown

@@ -1,0 +1,5 @@
+use Rattle.pipe_model.proofs.LawfulSteps.{told-by-pipe}
+use Rattle.pipe_model.proofs.laws.calls_are_told_by_the_pipe.Goals as goal
+
+pub returns : goal.returns
+returns c = told-by-pipe
