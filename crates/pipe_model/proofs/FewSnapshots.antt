@@ -1,6 +1,7 @@
 -- Where no end has posted 32,768 snapshots, all validation messages were near.
-use Rattle.std.proofs.Common.{◌≡◌, ◌∙◌, ℕ, ◌+◌, ◌-◌, ◌<◌, ◌≤◌, min, nat_lt, Bool, true, false, not, List, [], ◌∷◌, ◌++◌, length, take, drop, refl, ap, sym, subst, arith, if◌then◌else◌, ◌||◌, ◌&&◌, true≢false}
+use Rattle.std.proofs.Common.{◌≡◌, ℕ, ◌+◌, ◌-◌, ◌<◌, ◌≤◌, min, Bool, true, false, not, List, [], ◌∷◌, ◌++◌, length, take, drop, refl, arith, if◌then◌else◌, ◌||◌}
 use Rattle.std.specs.Prelude.{Option, Some, None, is_some}
+use Rattle.std.proofs.lemmas.Bool.{and_from, or_right}
 use Rattle.smc_num.specs.declared.Side.{Side}
 use Rattle.smc_num.specs.declared.Side.TheVariants.{A, B}
 use Rattle.smc_num.specs.declared.LinkId.{LinkId}
@@ -9,19 +10,16 @@ use Rattle.smc_num.specs.declared.LinkPhase.TheVariants.{Unused, Pending, Live, 
 use Rattle.smc_num.specs.Names.{other, head}
 use Rattle.smc_num.specs.Numbers.{wire_number}
 use Rattle.pipe_model.specs.declared.reply.ResetCause.TheVariants.{PeerAbort, Gap}
-use Rattle.pipe_model.specs.declared.snapshot.Snapshot.{Snapshot}
 use Rattle.pipe_model.specs.Snapshot.{shows_gap, is_near}
 use Rattle.pipe_model.specs.Closing.{cause_of, after_finish, after_close, after_moving, after_completing}
-use Rattle.pipe_model.specs.Ends.{Half, Sent, settle, is_due, is_over, is_due_for_move, meets_fate, moves, takes, takes_snapshot, validates, strikes, completes, counts_completed, check, lowest_link, posts_batch, window, unread, to_land, to_complete}
+use Rattle.pipe_model.specs.Ends.{Half, Sent, settle, is_due, is_over, is_due_for_move, meets_fate, takes, takes_snapshot, validates, strikes, completes, counts_completed, check, lowest_link, posts_batch, window, unread, to_land, to_complete}
 use Rattle.pipe_model.specs.Calls.{Call, Writes, Reads, Finishes, Closes, Aborts, Awaits, Moves, calls, is_ended}
 use Rattle.pipe_model.specs.Pipe.{Pipe, Terms, Item, Fate, GroupEnd, Up, Calls, Lands, Completes, half, pipe, apply, is_near_at, lands_near, is_near_part}
 use Rattle.pipe_model.specs.Parts.{IsFeasible}
 use Rattle.pipe_model.proofs.Chains.{rest-of}
-use Rattle.pipe_model.proofs.Sound.{Both}
 use Rattle.pipe_model.proofs.Items.{next-under}
 use Rattle.pipe_model.proofs.Parts.{both}
 use Rattle.pipe_model.proofs.Facts.{lands-well}
-use Rattle.pipe_model.proofs.Shuts.{or-right}
 
 -- of two ends with a fact, either has it
 either : (P : Half → Type 0) (h1 h2 : Half) (b : Bool) → P h1 → P h2 → P (if b then h1 else h2)
@@ -117,7 +115,7 @@ near-at : (o : Option Sent) (first number : ℕ) (k : Half) → ((m : Sent) → 
 near-at None first number k f l n = refl
 near-at (Some m) first number k f l n =
     let g = f m refl in
-    or-right (not m.check || is_over k) (is_near m.snapshot.number k.taken.number) (below-near m.snapshot.number k.taken.number first l (omega (arith, g, n)))
+    or_right (not m.check || is_over k) (is_near m.snapshot.number k.taken.number) (below-near m.snapshot.number k.taken.number first l (omega (arith, g, n)))
 
 next-below : (t : Terms) (x : Side) (items : List Item) → IsFeasible t items → (m : Sent) → head (to_land (half x (pipe t items))) ≡ Some m → m.snapshot.number ≤ (half x (pipe t items)).number
 next-below t x items f m e =
@@ -133,14 +131,10 @@ item-near t (Lands A) items f a b = let l = taken-first t items f in near-at (he
 item-near t (Lands B) items f a b = let l = taken-first t items f in near-at (head (to_land (pipe t items).b)) (t.number - 1) (pipe t items).b.number (pipe t items).a (next-below t B items f) l.0 b
 item-near t (Completes x) items f a b = refl
 
-both-true : (a b : Bool) → a ≡ true → b ≡ true → (a && b) ≡ true
-both-true true b e f = f
-both-true false b e f = e
-
 pub few-near : (t : Terms) (items : List Item) → IsFeasible t items → (half A (pipe t items)).number < (t.number - 1) + 32_768 → (half B (pipe t items)).number < (t.number - 1) + 32_768 → is_near_part t items ≡ true
 few-near t [] f a b = refl
 few-near t (item ∷ items) f a b =
     let g = numbers-grow t item items f in
     let m : (pipe t items).a.number < (t.number - 1) + 32_768 = omega (arith, g.0, a) in
     let n : (pipe t items).b.number < (t.number - 1) + 32_768 = omega (arith, g.1, b) in
-    both-true (is_near_part t items) (lands_near item (pipe t items)) (few-near t items f.1 m n) (item-near t item items f.1 m n)
+    and_from (is_near_part t items) (lands_near item (pipe t items)) (few-near t items f.1 m n) (item-near t item items f.1 m n)

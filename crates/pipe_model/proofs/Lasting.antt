@@ -1,18 +1,19 @@
 -- Once an end has told its last snapshot, all that it tells are last ones, so that an end which is over stays so.
-use Rattle.std.proofs.Common.{◌≡◌, ◌∙◌, ℕ, ◌+◌, ◌==◌, ◌<◌, ◌≤◌, ◌⊎◌, inl, inr, min, Bool, true, false, List, [], ◌∷◌, ◌++◌, length, take, drop, refl, ap, sym, subst, arith, if◌then◌else◌, ◌||◌, ◌&&◌, true≢false}
+use Rattle.std.proofs.Common.{◌≡◌, ◌∙◌, ℕ, ◌+◌, ◌==◌, ◌<◌, inl, inr, min, Bool, true, false, List, [], ◌∷◌, ◌++◌, length, take, drop, refl, ap, sym, subst, if◌then◌else◌, ◌||◌, ◌&&◌, true≢false}
 use Rattle.std.specs.Prelude.{Option, Some, None, is_some}
+use Rattle.std.proofs.lemmas.Bool.{eq-eqb, or_right}
 use Rattle.smc_num.specs.declared.Side.{Side}
 use Rattle.smc_num.specs.declared.Side.TheVariants.{A, B}
 use Rattle.smc_num.specs.declared.LinkId.{LinkId}
 use Rattle.smc_num.specs.declared.LinkPhase.{LinkPhase}
 use Rattle.smc_num.specs.declared.LinkPhase.TheVariants.{Unused, Pending, Live, Dead}
-use Rattle.smc_num.specs.Names.{other, head}
+use Rattle.smc_num.specs.Names.{head}
 use Rattle.smc_num.specs.Numbers.{wire_number}
 use Rattle.pipe_model.specs.declared.reply.ResetCause.TheVariants.{PeerAbort, Gap}
 use Rattle.pipe_model.specs.declared.snapshot.Snapshot.{Snapshot}
 use Rattle.pipe_model.specs.Snapshot.{is_last, shows_gap}
-use Rattle.pipe_model.specs.Closing.{Phase, cause_of, is_closing, struck, ended_with, after_finish, after_close, after_abort, after_posting, after_moving, after_completing}
-use Rattle.pipe_model.specs.Ends.{Half, Sent, fresh, settle, is_due, is_over, is_due_for_move, meets_fate, loses_group, moves, takes, takes_snapshot, validates, strikes, completes, counts_completed, check, lowest_link, present, posts_batch, window, unread, to_land, to_complete}
+use Rattle.pipe_model.specs.Closing.{Phase, cause_of, struck, ended_with, after_finish, after_close, after_abort, after_moving, after_completing}
+use Rattle.pipe_model.specs.Ends.{Half, Sent, fresh, settle, is_due, is_over, is_due_for_move, meets_fate, takes, takes_snapshot, validates, strikes, completes, counts_completed, check, lowest_link, present, posts_batch, window, unread, to_land, to_complete}
 use Rattle.pipe_model.specs.Calls.{Call, Writes, Reads, Finishes, Closes, Aborts, Awaits, Moves, calls, is_ended}
 use Rattle.pipe_model.specs.Pipe.{Pipe, Terms, Item, Fate, GroupEnd, Up, Calls, Lands, Completes, half, pipe, apply}
 use Rattle.pipe_model.specs.Parts.{IsFeasible, Climbs, snapshots}
@@ -20,7 +21,6 @@ use Rattle.pipe_model.proofs.Chains.{next-of}
 use Rattle.pipe_model.proofs.Sound.{Both}
 use Rattle.pipe_model.proofs.Items.{next-completes}
 use Rattle.pipe_model.proofs.Parts.{both, both-after}
-use Rattle.pipe_model.proofs.Shuts.{or-right}
 use Rattle.pipe_model.proofs.Quiet.{IsSpent, finish-spent, close-spent, abort-spent, struck-spent, ended-spent, posting-spent, completing-spent, moving-spent, present-spent, refined, accepts-unspent}
 
 -- that behind a last snapshot only last ones come
@@ -51,13 +51,10 @@ last-last : (first last : Snapshot) (ss : List Snapshot) → Climbs first ss las
 last-last first last [] c l e = subst (λ (q : Snapshot). is_last q ≡ true) c e
 last-last first last (r ∷ ss) c l e = last-last r last ss c.1 l.1 (l.0 e)
 
-number-same : (a b : ℕ) → a ≡ b → (a == b) ≡ true
-number-same a b e = grind arith
-
 spent-present : (h : Half) → IsSpent h.fin.told (length h.out) h.phase → is_last (present h) ≡ true
-spent-present h (inl e) = or-right (present h).closed (present h).aborted e
+spent-present h (inl e) = or_right (present h).closed (present h).aborted e
 spent-present h (inr e) =
-    let f : (present h).closed ≡ true = ap (λ b. b && (h.fin.told == length h.out)) e.0 ∙ number-same h.fin.told (length h.out) e.1 in
+    let f : (present h).closed ≡ true = ap (λ b. b && (h.fin.told == length h.out)) e.0 ∙ eq-eqb h.fin.told (length h.out) e.1 in
     ap (λ b. b || (present h).aborted) f
 
 posted : (size depth : ℕ) (h k : Half) → Both size depth h k → LastingOf h → LastingOf (posts_batch h)

@@ -24,3 +24,4 @@ mod PartExamples
 pub mod FewSnapshots
 pub mod Lasting
 pub mod Unswallowed
+pub mod ToldLast

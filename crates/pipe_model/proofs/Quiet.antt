@@ -1,7 +1,7 @@
 -- Behind the last snapshot that an end tells, closed or aborted, no message of it carries bytes.
 use Rattle.std.proofs.Common.{◌≡◌, ◌∙◌, ℕ, ◌+◌, ◌<◌, ◌≤◌, ◌==◌, ◌⊎◌, inl, inr, min, max, Bool, true, false, List, [], ◌∷◌, ◌++◌, length, take, drop, refl, ap, sym, subst, arith, if◌then◌else◌, ◌||◌, true≢false}
 use Rattle.std.specs.Prelude.{Some, is_some}
-use Rattle.std.proofs.lemmas.Bool.{eqb-true}
+use Rattle.std.proofs.lemmas.Bool.{or_right, eqb-true}
 use Rattle.std.proofs.lemmas.List.{drop-append-le}
 use Rattle.std.proofs.Math.Seq.{drop-append_seam}
 use Rattle.smc_num.specs.declared.Side.{Side}
@@ -19,21 +19,16 @@ use Rattle.pipe_model.specs.Closing.{Phase, Open, Finished, Closing, ClosePosted
 use Rattle.pipe_model.specs.Ends.{Half, Sent, fresh, settle, is_due, is_over, is_due_for_move, meets_fate, loses_group, moves, takes, takes_snapshot, validates, strikes, lands, completes, counts_completed, check, lowest_link, present, batch, posts_batch, window, unread, to_land, to_complete}
 use Rattle.pipe_model.specs.Calls.{Call, Writes, Reads, Finishes, Closes, Aborts, Awaits, Moves, calls, is_ended}
 use Rattle.pipe_model.specs.Pipe.{Pipe, Terms, Item, Fate, GroupEnd, Up, Calls, Lands, Completes, half, pipe, apply}
-use Rattle.pipe_model.specs.Parts.{actor, CanFollow, IsFeasible, EachOf, CarriesNone, EndsWithLast}
+use Rattle.pipe_model.specs.Parts.{actor, CanFollow, IsFeasible, EachOf, CarriesNone, EndsWithLast, has_last}
 use Rattle.pipe_model.proofs.Chains.{next-of}
 use Rattle.pipe_model.proofs.Sound.{Both}
 use Rattle.pipe_model.proofs.Items.{lt-or, next-completes}
 use Rattle.pipe_model.proofs.Parts.{BothOf, both, both-after}
-use Rattle.pipe_model.proofs.Shuts.{or-cases, and-parts, or-right}
+use Rattle.pipe_model.proofs.Shuts.{or-cases, and-parts}
 
 -- that an end adds no bytes any more: it is reset, or it closes behind completed bytes
 abbrev pub IsSpent : ℕ → ℕ → Phase → Type 0
 IsSpent fin out phase = (is_some (cause_of phase) ≡ true) ⊎ ((is_closing phase ≡ true) × (fin ≡ out))
-
--- whether one of the messages is the last one to tell anything
-abbrev pub has_last : List Sent → Bool
-has_last [] = false
-has_last (m ∷ ms) = is_last m.snapshot || has_last ms
 
 -- that no message behind such a one carries bytes
 abbrev pub QuietBehind : List Sent → Type 0
@@ -122,7 +117,7 @@ behind-append : (ms : List Sent) (m : Sent) → QuietBehind ms → (has_last ms 
 behind-append [] m q f = (λ _. tt, tt)
 behind-append (k ∷ ms) m q f = (
   λ e. none-append ms m (q.0 e) (f (ap (λ b. b || has_last ms) e)),
-  behind-append ms m q.1 (λ e. f (or-right (is_last k.snapshot) (has_last ms) e)),
+  behind-append ms m q.1 (λ e. f (or_right (is_last k.snapshot) (has_last ms) e)),
 )
 
 last-of : (a b c : Bool) → (b ≡ true → c ≡ true) → (a || b) ≡ true → (a || c) ≡ true
@@ -138,7 +133,7 @@ last-append [] m e = inr (either-of (or-cases (is_last m.snapshot) false e))
 last-append (k ∷ ms) m e = split (or-cases (is_last k.snapshot) (has_last (ms ++ m ∷ [])) e) (last-append ms m)
   where
     later : (has_last ms ≡ true) ⊎ (is_last m.snapshot ≡ true) → ((is_last k.snapshot || has_last ms) ≡ true) ⊎ (is_last m.snapshot ≡ true)
-    later (inl f) = inl (or-right (is_last k.snapshot) (has_last ms) f)
+    later (inl f) = inl (or_right (is_last k.snapshot) (has_last ms) f)
     later (inr f) = inr f
 
     split : (is_last k.snapshot ≡ true) ⊎ (has_last (ms ++ m ∷ []) ≡ true) → (has_last (ms ++ m ∷ []) ≡ true → (has_last ms ≡ true) ⊎ (is_last m.snapshot ≡ true)) → ((is_last k.snapshot || has_last ms) ≡ true) ⊎ (is_last m.snapshot ≡ true)
@@ -251,14 +246,14 @@ group-quiet h k q = (own h k (ended_with h.link.group h.phase) (ended-spent h.fi
 passed : (m : Sent) (ms : List Sent) (taken : Snapshot) (fin out : ℕ) (p : Phase) → Quiet (m ∷ ms) taken fin out p → Quiet ms taken fin out p
 passed m ms taken fin out p q = record {
   behind = let b = q.behind in b.1;
-  posted = λ e. q.posted (or-right (is_last m.snapshot) (has_last ms) e);
+  posted = λ e. q.posted (or_right (is_last m.snapshot) (has_last ms) e);
   taken = λ e. let c = q.taken e in let n = c.0 in (n.1, c.1);
 }
 
 taken : (m : Sent) (ms : List Sent) (before : Snapshot) (fin out : ℕ) (p : Phase) → Quiet (m ∷ ms) before fin out p → Quiet ms m.snapshot fin out p
 taken m ms before fin out p q = record {
   behind = let b = q.behind in b.1;
-  posted = λ e. q.posted (or-right (is_last m.snapshot) (has_last ms) e);
+  posted = λ e. q.posted (or_right (is_last m.snapshot) (has_last ms) e);
   taken = λ e. let b = q.behind in (b.0 e, q.posted (ap (λ c. c || has_last ms) e));
 }
 

@@ -1,8 +1,9 @@
 -- Where no message was swallowed, an end has taken all that completed, so that all validation messages were near.
-use Rattle.std.proofs.Common.{◌≡◌, ◌∙◌, ℕ, ◌+◌, ◌==◌, ◌<◌, ◌≤◌, ◌⊎◌, inl, inr, min, max, Bool, true, false, not, nat_lt, List, [], ◌∷◌, ◌++◌, length, take, drop, refl, ap, sym, subst, arith, if◌then◌else◌, ◌||◌, ◌&&◌, true≢false, suc, zero}
+use Rattle.std.proofs.Common.{◌≡◌, ◌∙◌, ℕ, ◌+◌, ◌<◌, ◌≤◌, ◌⊎◌, inl, inr, min, max, Bool, true, false, not, List, [], ◌∷◌, ◌++◌, length, take, drop, refl, ap, sym, subst, arith, if◌then◌else◌, ◌||◌, ◌&&◌, true≢false, suc, zero}
 use Rattle.std.specs.Prelude.{Option, Some, None, is_some, unwrap_or}
 use Rattle.std.proofs.lemmas.List.{drop-append-le}
 use Rattle.std.proofs.Math.Seq.{drop-append_seam}
+use Rattle.std.proofs.lemmas.Bool.{and_from, eq-eqb, or_parts, or_right}
 use Rattle.smc_num.specs.declared.Side.{Side}
 use Rattle.smc_num.specs.declared.Side.TheVariants.{A, B}
 use Rattle.smc_num.specs.declared.LinkId.{LinkId}
@@ -14,16 +15,15 @@ use Rattle.pipe_model.specs.declared.reply.ResetCause.TheVariants.{PeerAbort, Ga
 use Rattle.pipe_model.specs.declared.snapshot.Snapshot.{Snapshot}
 use Rattle.pipe_model.specs.Snapshot.{is_last, shows_gap, is_near}
 use Rattle.pipe_model.specs.Closing.{cause_of, after_finish, after_close, after_moving, after_completing}
-use Rattle.pipe_model.specs.Ends.{Half, Sent, fresh, settle, is_due, is_over, is_due_for_move, meets_fate, loses_group, moves, takes, takes_snapshot, validates, strikes, lands, completes, counts_completed, check, lowest_link, present, batch, posts_batch, window, unread, to_land, to_complete}
+use Rattle.pipe_model.specs.Ends.{Half, Sent, fresh, settle, is_due, is_over, is_due_for_move, meets_fate, takes, takes_snapshot, validates, strikes, lands, completes, counts_completed, check, lowest_link, present, batch, posts_batch, window, unread, to_land, to_complete}
 use Rattle.pipe_model.specs.Calls.{Call, Writes, Reads, Finishes, Closes, Aborts, Awaits, Moves, calls, is_ended}
 use Rattle.pipe_model.specs.Pipe.{Pipe, Terms, Item, Fate, GroupEnd, Up, Calls, Lands, Completes, half, pipe, apply, is_near_at, lands_near, is_near_part}
 use Rattle.pipe_model.specs.Parts.{actor, CanFollow, IsFeasible, Climbs, snapshots, is_swallowed, swallows, has_swallow}
-use Rattle.pipe_model.proofs.Chains.{next-of, rest-of, snapshots-append}
+use Rattle.pipe_model.proofs.Chains.{next-of, snapshots-append}
 use Rattle.pipe_model.proofs.Sound.{Both}
 use Rattle.pipe_model.proofs.Items.{lt-or, next-completes}
 use Rattle.pipe_model.proofs.Parts.{BothOf, both, both-after}
 use Rattle.pipe_model.proofs.Facts.{may-take}
-use Rattle.pipe_model.proofs.Shuts.{or-right}
 use Rattle.pipe_model.proofs.Lasting.{Lasts, LastingOf, lasting}
 
 -- that the flight, from a completed snapshot on, begins with those that were taken and ends with those that are to land
@@ -85,7 +85,7 @@ posted size depth h k b (inr p) =
     let s : snapshots (to_land h ++ batch h ∷ []) ≡ snapshots (to_land h) ++ present h ∷ [] = snapshots-append (to_land h) (batch h) refl in
     let q = passed-append k.taken.number h.fin (present h) h.flight (snapshots (to_land h)) p.0 in
     inr (subst (λ ms. Passed k.taken.number h.fin (h.flight ++ present h ∷ []) (snapshots ms) × ChecksFirst k.taken.number ms) (sym d)
-        (subst (λ ss. Passed k.taken.number h.fin (h.flight ++ present h ∷ []) ss) (sym s) q, first-append k.taken.number (to_land h) (batch h) refl p.1))
+    (subst (λ ss. Passed k.taken.number h.fin (h.flight ++ present h ∷ []) ss) (sym s) q, first-append k.taken.number (to_land h) (batch h) refl p.1))
 
 settled : (size depth : ℕ) (h k : Half) → Both size depth h k → HeardBoth h k → HeardBoth (settle depth h) (settle depth k)
 settled size depth h k b p =
@@ -94,6 +94,7 @@ settled size depth h k b p =
   where
     theirs : HeardOf (posts_batch k) h
     theirs = posted size depth k h (b.1, b.0) p.1
+
     by : (c : Bool) → HeardOf (posts_batch k) (if c then posts_batch h else h)
     by true = theirs
     by false = theirs
@@ -220,7 +221,7 @@ module _ (size depth : ℕ) (h k : Half) (r : Sent) where
       let same : h.landed ≡ max h.landed (h.completed + 1) = omega (arith, l) in
       let q = passed-rest k.taken.number h.fin r.snapshot rest (snapshots (to_land h)) (fewer (h.completed + 1) h.landed h.sent (omega (arith, l))) (subst (λ ss. Passed k.taken.number h.fin ss (snapshots (to_land h))) n.0 p.0) in
       inr (subst (λ i. Passed k.taken.number r.snapshot (drop 1 h.flight) (snapshots (drop i h.sent)) × ChecksFirst k.taken.number (drop i h.sent)) same
-          (subst (λ ss. Passed k.taken.number r.snapshot ss (snapshots (to_land h))) (sym tail) q, p.1))
+      (subst (λ ss. Passed k.taken.number r.snapshot ss (snapshots (to_land h))) (sym tail) q, p.1))
 
   confirmed-heard : h.completed < h.landed → HeardOf h k → HeardOf (counts_completed h) k
   confirmed-heard l p =
@@ -244,15 +245,12 @@ module _ (size depth : ℕ) (h k : Half) (r : Sent) where
   completes-by true e d l b a p = (confirmed-heard l p.0, p.1)
   completes-by false e d l b a p = (completed-heard e d l b p.0, still-over e d b a p.1)
 
-number-same : (a b : ℕ) → a ≡ b → (a == b) ≡ true
-number-same a b e = grind arith
-
 landed-first : (h : Half) → is_swallowed h ≡ false → h.completed ≤ h.landed → h.completed < h.landed
 landed-first h e o = by (lt-or h.completed h.landed)
   where
     by : (h.completed < h.landed) ⊎ (h.landed ≤ h.completed) → h.completed < h.landed
     by (inl l) = l
-    by (inr l) = absurd (true≢false (sym (number-same h.completed h.landed (omega (arith, l, o))) ∙ e))
+    by (inr l) = absurd (true≢false (sym (eq-eqb h.completed h.landed (omega (arith, l, o))) ∙ e))
 
 completes-heard : (size depth : ℕ) (h k : Half) → h.completed < length h.sent → is_swallowed h ≡ false → Both size depth h k → LastingOf h → HeardBoth h k → HeardBoth (completes (head (to_complete h)) h) k
 completes-heard size depth h k more e b a p =
@@ -284,17 +282,13 @@ kept t (Lands B) p broken f n b a q = lands-heard t.size t.depth p.b p.a f.0 b q
 kept t (Completes A) p broken f n b a q = completes-heard t.size t.depth p.a p.b f n b a q
 kept t (Completes B) p broken f n b a q = completes-heard t.size t.depth p.b p.a f n b a q
 
-neither : (a b : Bool) → (a || b) ≡ false → (a ≡ false) × (b ≡ false)
-neither true b e = absurd (true≢false e)
-neither false b e = (refl, e)
-
 fresh-heard : (number : ℕ) → HeardOf (fresh number) (fresh number)
 fresh-heard number = inr ((omega arith, refl), tt)
 
 all-heard : (t : Terms) (items : List Item) → IsFeasible t items → has_swallow t items ≡ false → HeardFrom A (pipe t items)
 all-heard t [] f e = (fresh-heard t.number, fresh-heard t.number)
 all-heard t (item ∷ items) f e =
-    let n = neither (has_swallow t items) (swallows item (pipe t items)) e in
+    let n = or_parts (has_swallow t items) (swallows item (pipe t items)) e in
     let q = seen-from A (actor item) (pipe t items) (all-heard t items f.1 n.0) in
     let k = kept t item (pipe t items) _ f.0 n.1 (both t (actor item) items f.1) (lasting t (actor item) items f.1) q in
     settled t.size t.depth (apply t.size item (pipe t items)).a (apply t.size item (pipe t items)).b (both-after t A item items f) (seen-from (actor item) A (apply t.size item (pipe t items)) k)
@@ -317,7 +311,7 @@ near-at (Some m) h k (r ∷ rs) e (inr p) =
     subst (λ (q : Sent). ((not q.check || is_over k) || is_near q.snapshot.number k.taken.number) ≡ true) (sym same) (by r.check refl c.0)
   where
     by : (b : Bool) → r.check ≡ b → (r.check ≡ true → r.snapshot.number ≤ k.taken.number) → ((not r.check || is_over k) || is_near r.snapshot.number k.taken.number) ≡ true
-    by true g f = or-right (not r.check || is_over k) (is_near r.snapshot.number k.taken.number) (heard-near r.snapshot.number k.taken.number (f g))
+    by true g f = or_right (not r.check || is_over k) (is_near r.snapshot.number k.taken.number) (heard-near r.snapshot.number k.taken.number (f g))
     by false g f = ap (λ i. (not i || is_over k) || is_near r.snapshot.number k.taken.number) g
 
 item-near : (t : Terms) (item : Item) (items : List Item) → HeardFrom A (pipe t items) → lands_near item (pipe t items) ≡ true
@@ -329,13 +323,9 @@ item-near t (Lands A) items h = near-at (head (to_land (pipe t items).a)) (pipe 
 item-near t (Lands B) items h = near-at (head (to_land (pipe t items).b)) (pipe t items).b (pipe t items).a (to_land (pipe t items).b) refl h.1
 item-near t (Completes x) items h = refl
 
-both-true : (a b : Bool) → a ≡ true → b ≡ true → (a && b) ≡ true
-both-true true b e f = f
-both-true false b e f = e
-
 -- a part in which no message was swallowed is near
 pub unswallowed-near : (t : Terms) (items : List Item) → IsFeasible t items → has_swallow t items ≡ false → is_near_part t items ≡ true
 unswallowed-near t [] f e = refl
 unswallowed-near t (item ∷ items) f e =
-    let n = neither (has_swallow t items) (swallows item (pipe t items)) e in
-    both-true (is_near_part t items) (lands_near item (pipe t items)) (unswallowed-near t items f.1 n.0) (item-near t item items (all-heard t items f.1 n.0))
+    let n = or_parts (has_swallow t items) (swallows item (pipe t items)) e in
+    and_from (is_near_part t items) (lands_near item (pipe t items)) (unswallowed-near t items f.1 n.0) (item-near t item items (all-heard t items f.1 n.0))

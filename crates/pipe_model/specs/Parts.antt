@@ -150,6 +150,15 @@ pub record CarriesFew (size accepted : ℕ) (m : Sent) : Type 0 where
   pub check : m.check ≡ true → CarriesNone m
   pub aborted : m.snapshot.aborted ≡ true → CarriesNone m
 
+-- whether one of the messages tells a last snapshot, closed or aborted
+abbrev pub has_last : List Sent → Bool
+has_last [] = false
+has_last (m ∷ ms) = is_last m.snapshot || has_last ms
+
+-- that an end has told its last snapshot
+abbrev pub HasToldLast : Half → Type 0
+HasToldLast h = has_last h.sent ≡ true
+
 -- that once y has taken the last snapshot of x, closed or aborted, no message of x under way to it carries bytes
 abbrev pub EndsWithLast : Half → Half → Type 0
 EndsWithLast x y = is_last y.taken ≡ true → EachOf CarriesNone (to_land x)
