@@ -1,7 +1,7 @@
 //! One end of a connection.
 ghost use Rattle.std.specs.Prelude.{◌≡◌, ◌<◌, ◌^◌, ◌+◌, OnOk, drop};
 ghost use Rattle.pipe_model.specs.Snapshot.{first_snapshot, tells_same, is_last};
-ghost use Rattle.pipe_model.specs.Ends.{Half, fresh, window, unread, is_over, present, is_due, batch, settle};
+ghost use Rattle.pipe_model.specs.Ends.{fresh, window, unread, is_over, present, is_due, batch, settle};
 
 use crate::closing::Phase;
 use crate::plain::closing::{cause, closing, group_gone, on_posting};

@@ -14,8 +14,8 @@ use std::marker::Model;
 /// The two ends of a connection and what it is made with. Contracts see the terms and the pipe of the
 /// definitions.
 ///
-/// Each item of a part is one call, which posts what becomes due with it at either end. Want of
-/// memory leaves a pipe that stands for nothing.
+/// Each item of a part is one call here, which posts what becomes due with it at either end. After
+/// want of memory the pipe is of no more use.
 #[derive(Drop)]
 pub struct PlainPipe {
     size: u32,
@@ -125,7 +125,8 @@ impl PlainPipe {
         Ok(answer)
     }
 
-    /// The next message of the end at a side lands at its peer.
+    /// The next message of the end at a side lands at its peer. There is one where its
+    /// [`PlainEnd::next_to_land`] gives it.
     pub fn lands(&mut self, side: Side) -> Result<(), AllocError>
         requires { (half side self.old.ends).landed < length (half side self.old.ends).sent }
         ensures { OnOk result (self.new ≡ after (Lands side) self.old) }
