@@ -16,21 +16,31 @@ use std::marker::Model;
 
 // The states.
 const NO_FLOW: u8 = 0;
+
 const FIRST_CONTACT: u8 = 1;
+
 const ADD_SEEN: u8 = 2;
 
 // The messages.
 const CONFIRM: u8 = 0;
+
 const ADD: u8 = 1;
+
 const KEYS: u8 = 2;
 
 // The actions. Some look whether the flow's slot is named.
 const SKIP: u8 = 0;
+
 const FIRST_LIVE: u8 = 1;
+
 const LIVE_IF_NAMED: u8 = 2;
+
 const NEW_LINK: u8 = 3;
+
 const LINK_AGAIN: u8 = 4;
+
 const NO_KEYS: u8 = 5;
+
 const KEYS_IF_NAMED: u8 = 6;
 
 const TABLE: Cases<9> = Cases {
@@ -104,6 +114,7 @@ fn act(action: u8, named: bool, view: &LinkView) -> FlowStep
 }
 
 impl ClientTable {
+    /// The checked table. It has one row a case, so the check refuses nothing.
     pub fn new() -> ClientTable {
         match TABLE.check() {
             Ok(sound) => ClientTable { sound },
@@ -111,6 +122,7 @@ impl ClientTable {
         }
     }
 
+    /// The step for a message, by the action of its row.
     fn step(&self, link: Link, message: u8, slot: u8, view: &LinkView) -> FlowStep
         requires { message < 3 }
         ensures { result ≡ client_act (action_of TABLE.rows (client_state (link_of link)) message) (slot == flow_slot (link_of link)) view.now }

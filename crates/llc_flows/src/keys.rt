@@ -13,19 +13,27 @@ use std::marker::Model;
 
 // The states.
 const FREE: u8 = 0;
+
 const ASKED: u8 = 1;
+
 const RETRY_WAITS: u8 = 2;
+
 const DELETING: u8 = 3;
 
 // The messages.
 const CONFIRM_REPLY: u8 = 0;
+
 const CONFIRM_RETRY: u8 = 1;
+
 const DELETE_REPLY: u8 = 2;
 
 // The actions. The first is one for a request that told the keys of all links, and else a retry.
 const SKIP: u8 = 0;
+
 const CONFIRM_IF_WHOLE: u8 = 1;
+
 const RETRY: u8 = 2;
+
 const WITHDRAW: u8 = 3;
 
 const TABLE: Cases<12> = Cases {
@@ -53,6 +61,7 @@ impl Model for KeyTable {
     ghost invariant = { λ t. t.sound.cases ≡ TABLE };
 }
 
+/// The state of the table.
 fn state_of(key: KeyPhase) -> u8
     ensures state { result ≡ key_state key }
     ensures known { result < 4 }
@@ -78,6 +87,7 @@ fn act(action: u8, whole: bool) -> FlowStep
 }
 
 impl KeyTable {
+    /// The checked table. It has one row a case, so the check refuses nothing.
     pub fn new() -> KeyTable {
         match TABLE.check() {
             Ok(sound) => KeyTable { sound },
@@ -85,6 +95,7 @@ impl KeyTable {
         }
     }
 
+    /// The step for a message, by the action of its row.
     fn step(&self, key: KeyPhase, message: u8, whole: bool) -> FlowStep
         requires { message < 3 }
         ensures { result ≡ key_act (action_of TABLE.rows (key_state key) message) whole }

@@ -16,25 +16,39 @@ use std::marker::Model;
 
 // The states.
 const NO_FLOW: u8 = 0;
+
 const FIRST_CONTACT: u8 = 1;
+
 const ADD_SENT: u8 = 2;
+
 const KEYS_SENT: u8 = 3;
+
 const LINK_SENT: u8 = 4;
+
 const ABANDONED: u8 = 5;
 
 // The messages.
 const CONFIRM_REPLY: u8 = 0;
+
 const ADD_REPLY: u8 = 1;
+
 const ADD_REJECT: u8 = 2;
+
 const KEYS_REPLY: u8 = 3;
 
 // The actions. Some want the flow's slot to be named.
 const SKIP: u8 = 0;
+
 const FIRST_LIVE: u8 = 1;
+
 const LIVE: u8 = 2;
+
 const SEND_KEYS: u8 = 3;
+
 const OVER_IF_NAMED: u8 = 4;
+
 const ASK_LINK: u8 = 5;
+
 const OVER: u8 = 6;
 
 const TABLE: Cases<24> = Cases {
@@ -101,6 +115,7 @@ fn act(action: u8, named: bool, stands: bool) -> FlowStep
 }
 
 impl ServerTable {
+    /// The checked table. It has one row a case, so the check refuses nothing.
     pub fn new() -> ServerTable {
         match TABLE.check() {
             Ok(sound) => ServerTable { sound },
@@ -108,6 +123,7 @@ impl ServerTable {
         }
     }
 
+    /// The action of the row for a flow and a message.
     fn action(&self, link: Link, message: u8) -> u8
         requires { message < 4 }
         ensures { result ≡ action_of TABLE.rows (server_state (link_of link)) message }
