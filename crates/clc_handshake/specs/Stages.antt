@@ -1,6 +1,6 @@
 -- The handshake of one end: what it waits for, and what each step of it leads to.
 -- A reader learns here which message an end takes next, or what has become of it.
-use Rattle.std.specs.Prelude.{ℕ, Bool, true, false, if◌then◌else◌}
+use Rattle.std.specs.Prelude.{ℕ, Bool, true, false}
 use Rattle.smc_num.specs.declared.Side.{Side}
 use Rattle.smc_num.specs.declared.Side.TheVariants.{A, B}
 use Rattle.clc_wire.specs.declared.message.ClcMessage.{ClcMessage}

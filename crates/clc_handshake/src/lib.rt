@@ -48,13 +48,20 @@ impl Handshake {
         Handshake { raw, stage }
     }
 
+    /// The step that `on` would answer now; nothing changes.
+    pub fn would_step(&self, message: &ClcMessage, view: &Lacks) -> ClcStep
+        ensures { result ≡ verdict self.now.raw self.now.state message.now view.now }
+    {
+        rules::step(self.raw, self.stage, message, view)
+    }
+
     /// The step for a message and the facts at the side, the first rule that holds. A message that
     /// the end doesn't wait for is `Wrong`.
     pub fn on(&mut self, message: &ClcMessage, view: &Lacks) -> ClcStep
         ensures step { result ≡ verdict self.old.raw self.old.state message.now view.now }
         ensures state { self.new ≡ record self.old { state = after_step result message.now self.old.state } }
     {
-        let step = rules::step(self.raw, self.stage, message, view);
+        let step = self.would_step(message, view);
         self.stage = stage::after(self.stage, step, message);
         step
     }
@@ -127,6 +134,7 @@ mod tests {
             rmb_ready: false,
             ..FACTS
         };
+        assert_eq!(rt; end.would_step(&PROPOSAL, &asks), ClcStep::AskKey);
         assert_eq!(rt; end.on(&PROPOSAL, &asks), ClcStep::AskKey);
         assert_eq!(rt;
             end.on(&PROPOSAL, &NO_GROUP),

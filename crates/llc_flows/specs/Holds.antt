@@ -1,11 +1,14 @@
 -- What holds a request back.
 -- A reader learns here, request by request, the first reason that holds.
-use Rattle.std.specs.Prelude.{ℕ, ◌&&◌, Bool, true, false, if◌then◌else◌, Option, Some, None, Result, Ok, Err}
+use Rattle.std.specs.Prelude.{◌≡◌, ℕ, Bool, false, if◌then◌else◌, Option, Some, None, Result, Ok, Err}
 use Rattle.smc_num.specs.declared.Side.{Side}
 use Rattle.smc_num.specs.declared.Side.TheVariants.{A, B}
 use Rattle.smc_num.specs.Names.{has}
 use Rattle.pipe_model.specs.declared.reply.Hold.{Hold}
 use Rattle.pipe_model.specs.declared.reply.Hold.TheVariants.{FirstContact, AddLink, ConfirmRkey, DeleteRkey, TestLink}
+use Rattle.pipe_model.specs.declared.reply.Reply.{Reply}
+use Rattle.pipe_model.specs.declared.reply.Reply.TheVariants.{Held}
+use Rattle.pipe_model.specs.declared.verdict.Lacks.{Lacks}
 use Rattle.pipe_model.specs.Flows.{Flow, LinkFlow, is_first_contact, is_adding, is_asked, is_deleting}
 use Rattle.pipe_model.specs.Replies.{is_asking_or_waiting}
 
@@ -46,3 +49,12 @@ test_hold slot f = if has slot f.tests then Some TestLink else None
 abbrev pub answer : Option Hold → Result (Unit {0}) Hold
 answer None = Ok tt
 answer (Some hold) = Err hold
+
+-- a reply, unless something holds the request back
+abbrev pub unless_held : Option Hold → Reply → Reply
+unless_held None reply = reply
+unless_held (Some hold) reply = Held hold
+
+-- the facts of a handshake are those of a side's flows
+abbrev pub TellsFlow : Lacks → Flow → Type 0
+TellsFlow facts f = (facts.first_contact ≡ is_first_contact f.link) × (facts.key_flow ≡ f.key) × (facts.adding ≡ is_adding f.link)

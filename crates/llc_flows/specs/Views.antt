@@ -1,6 +1,6 @@
 -- The flows of one side, as a manager keeps them.
 -- A reader learns here how the manager's values stand for the flows of the definitions.
-use Rattle.std.specs.Prelude.{ℕ, Option, Some, None}
+use Rattle.std.specs.Prelude.{Option, Some, None}
 use Rattle.smc_num.specs.declared.Side.{Side}
 use Rattle.pipe_model.specs.Flows.{Flow, LinkFlow, NoFlow, FirstContact, AddSent, KeysSent, LinkSent, Abandoned, AddSeen}
 use Rattle.llc_flows.specs.declared.link.Link.{Link}

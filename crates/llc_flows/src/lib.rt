@@ -21,6 +21,7 @@ macro_rules! rows {
 
 mod client;
 mod keys;
+mod laws;
 mod link;
 mod server;
 mod slots;
@@ -31,6 +32,10 @@ use crate::link::{Link, is_adding, is_first_contact, moved, slot_of};
 use crate::server::ServerTable;
 use crate::slots::{Deletion, MOST};
 use arrayvec::ArrayVec;
+pub use laws::{
+    a_key_that_is_asked_for_is_not_held, grow_is_held_as_told, test_is_held_as_told,
+    trim_is_held_as_told,
+};
 pub use link::AddRequest;
 use pipe_model::{FlowStep, Hold, KeyPhase, LinkView, LlcMessage, Side};
 use std::marker::Model;

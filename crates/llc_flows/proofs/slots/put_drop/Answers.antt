@@ -1,4 +1,4 @@
-use Rattle.std.proofs.Common.{◌<◌, length, sym, subst, lit<, arith}
+use Rattle.std.proofs.Common.{sym, subst, lit<, arith}
 use Rattle.pipe_model.specs.Flows.{Drop}
 use Rattle.llc_flows.specs.Slots.{AreApart}
 use Rattle.llc_flows.proofs.Apart.{room_for, none_turned}
