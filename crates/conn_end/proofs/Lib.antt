@@ -1,0 +1,6 @@
+pub mod Arriving
+pub mod Ends
+pub mod Phases
+pub mod Posting
+pub mod Rows
+pub mod Writing

@@ -2,7 +2,7 @@
 ghost use Rattle.std.specs.Prelude.{◌≡◌, ◌<◌, ◌+◌, ◌*◌, ℕ, List};
 ghost use Rattle.pipe_model.specs.Calls.{Plain};
 ghost use Rattle.pipe_model.specs.Closing.{cause_of as cause_at, is_closing, is_finished, is_group_gone, after_posting, after_completing, after_moving, ended_with};
-ghost use Rattle.conn_end.specs.Table.{state_of as state_at, place_of, cause_in, action_in, after_action, after_step, step_told};
+ghost use Rattle.conn_end.specs.Table.{state_of as state_at, place_of, cause_in, after_action, told_by, after_step, step_told};
 ghost use Rattle.conn_end.specs.Told.{told_of};
 
 use crate::answers::EndReply;
@@ -121,7 +121,8 @@ impl ClosingTable {
 
     // The action of a step.
     fn action(&self, step: Step, phase: Phase) -> u8
-        ensures { result ≡ action_in self.now step phase }
+        ensures phase { after_action result (cause_in step) phase ≡ after_step step phase }
+        ensures answer { told_by result ≡ step_told step phase }
     {
         self.table.pick(state_of(phase), row_of(step))
     }
