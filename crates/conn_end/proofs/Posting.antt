@@ -118,25 +118,3 @@ pieces_are size ring count c h stands = by_reset (is_some (cause_of h.phase))
         let rest : 0 ≡ (t - t) - min (t - t) (size - t % size) = omega arith in
         λ i. (record { place = t % size; len = none i }, record { place = 0; len = rest i })
     by_reset false = ap₂ (λ a l. (front_of size l a, back_of size l a)) (stands.whole.counted ∙ stands.accepted) last
-
--- an end whose link is live is due where it has something new and room; one whose link is not is not due
-both_true : (a b : Bool) → (a && b) ≡ true → (a ≡ true) × (b ≡ true)
-both_true true b e = (refl, e)
-both_true false b e = absurd (true≢false (sym e))
-
-pub due_live : (depth : ℕ) (h : Half) → may_post h ≡ true → is_due depth h ≡ (not (is_group_gone h.phase) && (nat_lt (length h.flight) depth && not (tells_same (present h) h.last)))
-due_live depth h live =
-    let parts = both_true h.up (has_link h.link h.live) live in
-    ap₂ (λ u l. (u && not (is_group_gone h.phase)) && (l && (nat_lt (length h.flight) depth && not (tells_same (present h) h.last)))) parts.0 parts.1
-
-never : (a b x y : Bool) → (a && b) ≡ false → ((a && x) && (b && y)) ≡ false
-never true true x y e = absurd (true≢false e)
-never true false true y e = refl
-never true false false y e = refl
-never false b x y e = refl
-
-pub due_dead : (depth : ℕ) (h : Half) → may_post h ≡ false → is_due depth h ≡ false
-due_dead depth h dead = never h.up (has_link h.link h.live) (not (is_group_gone h.phase)) (nat_lt (length h.flight) depth && not (tells_same (present h) h.last)) dead
-
-pub settle_by : (depth : ℕ) (h : Half) (b : Bool) → is_due depth h ≡ b → settle depth h ≡ cond b (posts_batch h) h
-settle_by depth h b e = ap (λ b. cond b (posts_batch h) h) e

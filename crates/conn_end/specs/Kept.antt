@@ -90,10 +90,10 @@ pub record SameTerms (old new : Kept) : Type 0 where
   pub first : new.first ≡ old.first
   pub token : new.token ≡ old.token
 
--- that an end is as new, with a token
-pub record IsNew (size depth number token : ℕ) (k : Kept) : Type 0 where
-  pub sized : k.size ≡ size
-  pub deep : k.course.depth ≡ depth
+-- that an end is as new, for an element of so many bytes and so many snapshots under way, from a number on, with a token
+pub record IsNew (bytes most number label : ℕ) (k : Kept) : Type 0 where
+  pub size : k.size ≡ bytes
+  pub depth : k.course.depth ≡ most
   pub first : k.first ≡ number
-  pub labelled : k.token ≡ token
+  pub token : k.token ≡ label
   pub owes : k.owes ≡ false

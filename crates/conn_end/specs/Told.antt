@@ -2,7 +2,8 @@
 -- A reader learns here how an answer names the bytes of a read, which the end itself does not hold.
 use Rattle.std.specs.Prelude.{◌≡◌, ℕ, ◌%◌, ◌==◌, if◌then◌else◌, List, take, drop}
 use Rattle.smc_num.specs.Numbers.{wire_number}
-use Rattle.pipe_model.specs.declared.reply.Reply.TheVariants.{Wrote as SaysWrote, Full as SaysFull, Empty as SaysEmpty, End as SaysEnd, Ended as SaysEnded, Done as SaysDone, Reset as SaysReset}
+use Rattle.pipe_model.specs.declared.reply.Reply.{Reply}
+use Rattle.pipe_model.specs.declared.reply.Reply.TheVariants.{Wrote as SaysWrote, Full as SaysFull, Empty as SaysEmpty, End as SaysEnd, Ended as SaysEnded, Done as SaysDone, Reset as SaysReset, Idle as SaysIdle}
 use Rattle.pipe_model.specs.Snapshot.{shows_gap}
 use Rattle.pipe_model.specs.Closing.{cause_of}
 use Rattle.pipe_model.specs.declared.sent.Sent.{Sent}
@@ -45,3 +46,8 @@ finds m h = if m.check then found m.snapshot.number h.taken.number else Fresh
 -- what a write of some bytes is told by the count of those that fit
 abbrev pub wrote_told : ℕ → EndReply
 wrote_told count = if count == 0 then Full else Wrote count
+
+-- what an await is told by what a read of one byte would be told
+abbrev pub awaited : EndReply → Reply
+awaited Empty = SaysIdle
+awaited _ = SaysDone

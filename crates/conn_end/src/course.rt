@@ -4,6 +4,7 @@
 ghost use Rattle.std.specs.Prelude.{◌≡◌, ◌<◌, ◌≤◌, ◌+◌, ◌^◌, ◌&&◌, if◌then◌else◌, ◌++◌, ◌∷◌, [], ℕ, true, false, not, nat_lt, List, length, drop, Some, None, IfOk, IsTrue};
 ghost use Rattle.pipe_model.specs.Snapshot.{tells_same};
 ghost use Rattle.pipe_model.specs.Closing.{cause_of as cause_in, is_group_gone, ended_with, after_posting, after_completing, after_moving};
+ghost use Rattle.smc_num.specs.Names.{head};
 ghost use Rattle.pipe_model.specs.Words.{is_nil};
 ghost use Rattle.pipe_model.specs.Ends.{Half, fresh, present, check, takes_snapshot, validates, strikes};
 ghost use Rattle.pipe_model.specs.Calls.{Reads, is_ended, reads, finishes, closes, aborts, half_told};
@@ -335,5 +336,29 @@ impl Course {
         ensures { result ≡ self.now.last }
     {
         self.last
+    }
+
+    /// How many bytes of its peer it has read.
+    #[cfg(test)]
+    pub(crate) fn bytes_read(&self) -> u64
+        ensures { result ≡ self.now.read }
+    {
+        self.read
+    }
+
+    /// The number last used.
+    #[cfg(test)]
+    pub(crate) fn number(&self) -> u64
+        ensures { result ≡ self.now.number }
+    {
+        self.number
+    }
+
+    /// The oldest snapshot under way.
+    #[cfg(test)]
+    pub(crate) fn oldest(&self) -> Option<Snapshot>
+        ensures { result ≡ head self.now.flight }
+    {
+        self.flight.front().copied()
     }
 }

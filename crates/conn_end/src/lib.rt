@@ -24,7 +24,10 @@ ghost use Rattle.conn_end.specs.Arrivals.{Lands, MayLand, Completes, MayComplete
 mod answers;
 mod closing;
 mod course;
+mod laws;
 mod spelling;
+#[cfg(test)]
+mod tests;
 
 pub use answers::{Batch, EndReply, Taken};
 pub use cdc_ring::Piece;
@@ -32,6 +35,9 @@ use cdc_ring::SendRing;
 use cdc_wire::CdcMessage;
 use closing::Step;
 use course::Course;
+pub use laws::{
+    an_await_is_told_by_a_read, each_end_stands_for_a_plain_one, its_links_are_its_owners,
+};
 use pipe_model::{ResetCause, Snapshot};
 use smc_num::NoMemory;
 use spelling::{checks, last_one, spell, spell_check};
