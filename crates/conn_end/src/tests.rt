@@ -89,9 +89,9 @@ fn write(rt: &impl Abort, end: &mut ConnEnd, count: usize) -> EndReply {
     end.write(&BYTES[..count])
 }
 
-fn post(rt: &impl Abort, end: &mut ConnEnd) -> Option<Batch> {
+fn post(rt: &impl Abort, end: &mut ConnEnd, live: bool) -> Option<Batch> {
     assert!(rt; end.course.number() < 1_000);
-    end.next_batch(true)
+    end.next_batch(live)
 }
 
 fn run(rt: &impl Abort, end: &mut ConnEnd, does: Does) -> Gives {
@@ -119,7 +119,7 @@ fn run(rt: &impl Abort, end: &mut ConnEnd, does: Does) -> Gives {
             end.move_to();
             Gives::Nothing
         }
-        Does::Post => Gives::Posted(post(rt, end)),
+        Does::Post => Gives::Posted(post(rt, end, true)),
     }
 }
 
@@ -283,6 +283,6 @@ fn an_end_moves_after_a_reset(rt: HostRuntime) -> Result<(), Fail> {
     end.start(TOKEN);
     end.reset(gone);
     assert_eq!(rt; end.abort(), EndReply::Reset(gone));
-    assert_eq!(rt; end.next_batch(false), None);
+    assert_eq!(rt; post(&rt, &mut end, false), None);
     Ok(())
 }
