@@ -99,7 +99,10 @@ taken_open s h false going free = sym (ap (λ b. is_shut (cond b (strikes PeerAb
 -- what is kept after a snapshot was taken
 pub whole_taken : (size : ℕ) (ring more : KeptRing) (count : ℕ) (c d : Course) (s : Snapshot) (h : Half) → Stands size ring count c h → MayTake size s h → RingStandsFor more (acks s.read (ring_of size ring.bytes c)) → d ≡ record c { taken = s; phase = d.phase } → d.phase ≡ (takes_snapshot s (at_course c h)).phase → IsWhole size more count d
 whole_taken size ring more count c d s h stands may rings e phase = subst (λ (x : Course). IsWhole size more count x) (sym e) (record {
-  few = w.few; most = w.most; climbs = w.climbs; last = w.last;
+  few = w.few;
+  most = w.most;
+  climbs = w.climbs;
+  last = w.last;
   ring = subst (λ bs. RingStandsFor more (ring_of size bs (record c { taken = s; phase = d.phase }))) (sym rings.bytes) rings;
   counted = ap (λ bs. c.fin.told + length bs) rings.bytes ∙ w.counted;
   reads = reads;
@@ -118,10 +121,10 @@ whole_taken size ring more count c d s h stands may rings e phase = subst (λ (x
 pub taken : (size : ℕ) (ring more : KeptRing) (count : ℕ) (c d : Course) (s : Snapshot) (h : Half) → Stands size ring count c h → MayTake size s h → RingStandsFor more (acks s.read (ring_of size ring.bytes c)) → d ≡ record c { taken = s; phase = d.phase } → at_course d h ≡ takes_snapshot s (at_course c h) → Stands size more count d (takes_snapshot s h)
 taken size ring more count c d s h stands may rings e is =
     stands_there size more count d h (takes_snapshot s h)
-        (whole_taken size ring more count c d s h stands may rings e (ap (λ (q : Half). q.phase) is))
-        stands.accepted
-        (rings.bytes ∙ stands.bytes ∙ ap (λ (t : Snapshot). drop t.told h.out) (sym (ap (λ (x : Course). x.fin) e ∙ stands.fin)))
-        (is ∙ ap (takes_snapshot s) (came size ring count c h stands))
+    (whole_taken size ring more count c d s h stands may rings e (ap (λ (q : Half). q.phase) is))
+    stands.accepted
+    (rings.bytes ∙ stands.bytes ∙ ap (λ (t : Snapshot). drop t.told h.out) (sym (ap (λ (x : Course). x.fin) e ∙ stands.fin)))
+    (is ∙ ap (takes_snapshot s) (came size ring count c h stands))
 
 -- the oldest snapshot of a flight, and those behind it
 oldest : (ss : List Snapshot) (s : Snapshot) → head ss ≡ Some s → ss ≡ s ∷ drop 1 ss
@@ -185,10 +188,10 @@ completed size ring more count c d s h stands first rings e =
     let n : ℕ = s.told - c.fin.told in
     let place : c.fin.told + n ≡ s.told = omega (arith, from) in
     stands_there size more count d (counts_completed h) (record (counts_completed h) { fin = s; flight = drop 1 h.flight; phase = after_completing s h.phase })
-        (whole_completed size ring count c s stands.whole mine more d rings e)
-        stands.accepted
-        (rings.bytes ∙ ap (drop n) (stands.bytes ∙ ap (λ (t : Snapshot). drop t.told h.out) (sym stands.fin)) ∙ drop-drop n c.fin.told h.out ∙ ap (λ k. drop k h.out) place ∙ ap (λ (x : Course). drop x.fin.told h.out) (sym e))
-        (ap (λ (x : Course). at_course x (counts_completed h)) e ∙ ap (λ (q : Half). record (counts_completed q) { fin = s; flight = drop 1 q.flight; phase = after_completing s q.phase }) (came size ring count c h stands))
+    (whole_completed size ring count c s stands.whole mine more d rings e)
+    stands.accepted
+    (rings.bytes ∙ ap (drop n) (stands.bytes ∙ ap (λ (t : Snapshot). drop t.told h.out) (sym stands.fin)) ∙ drop-drop n c.fin.told h.out ∙ ap (λ k. drop k h.out) place ∙ ap (λ (x : Course). drop x.fin.told h.out) (sym e))
+    (ap (λ (x : Course). at_course x (counts_completed h)) e ∙ ap (λ (q : Half). record (counts_completed q) { fin = s; flight = drop 1 q.flight; phase = after_completing s q.phase }) (came size ring count c h stands))
 
 -- what an end makes of a message of its own that has completed
 pub completes_fresh : (sent : Sent) (h : Half) → sent.check ≡ false → completes (Some sent) h ≡ record (counts_completed h) { fin = sent.snapshot; flight = drop 1 h.flight; phase = after_completing sent.snapshot h.phase }

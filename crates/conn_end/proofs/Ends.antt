@@ -21,7 +21,18 @@ came size ring count c h s = λ i. record h { rd = s.read i; taken = s.taken i; 
 -- what is kept stands for an end that has come as far, with the bytes of another one
 pub stands_there : (size : ℕ) (ring : KeptRing) (count : ℕ) (c : Course) (h g : Half) → IsWhole size ring count c → count ≡ length h.out → ring.bytes ≡ drop c.fin.told h.out → at_course c h ≡ g → Stands size ring count c g
 stands_there size ring count c h g whole counted bytes e = subst (λ (g : Half). Stands size ring count c g) e (record {
-  whole = whole; accepted = counted; bytes = bytes; read = refl; taken = refl; fin = refl; last = refl; number = refl; flight = refl; phase = refl; finished = refl })
+  whole = whole;
+  accepted = counted;
+  bytes = bytes;
+  read = refl;
+  taken = refl;
+  fin = refl;
+  last = refl;
+  number = refl;
+  flight = refl;
+  phase = refl;
+  finished = refl;
+})
 
 -- after a call or news that leaves its bytes
 pub after : (size : ℕ) (ring : KeptRing) (count : ℕ) (c d : Course) (h : Half) (f : Half → Half) → Stands size ring count c h → IsWhole size ring count d → d.fin ≡ c.fin → at_course d h ≡ f (at_course c h) → Stands size ring count d (f h)
@@ -35,13 +46,26 @@ answers size call reply ring count c h s told place = subst (λ (q : Half). Answ
 -- what holds of an end holds once its phase has gone on, unless it is open again
 pub whole_phase : (size : ℕ) (ring : KeptRing) (count : ℕ) (c d : Course) → IsWhole size ring count c → d ≡ record c { phase = d.phase; finished = d.finished } → (is_shut d.phase ≡ false → is_shut c.phase ≡ false) → IsWhole size ring count d
 whole_phase size ring count c d w e shut = subst (λ (x : Course). IsWhole size ring count x) (sym e) (record {
-  few = w.few; most = w.most; ring = w.ring; counted = w.counted; climbs = w.climbs; last = w.last; reads = λ o. w.reads (shut o) })
+  few = w.few;
+  most = w.most;
+  ring = w.ring;
+  counted = w.counted;
+  climbs = w.climbs;
+  last = w.last;
+  reads = λ o. w.reads (shut o);
+})
 
 -- and once it has read told bytes
 pub whole_read : (size : ℕ) (ring : KeptRing) (count : ℕ) (c d : Course) → IsWhole size ring count c → d ≡ record c { read = d.read } → (is_shut d.phase ≡ false → d.read ≤ d.taken.told) → IsWhole size ring count d
 whole_read size ring count c d w e told = subst (λ (x : Course). IsWhole size ring count x) (sym e) (record {
-  few = w.few; most = w.most; ring = w.ring; counted = w.counted; climbs = w.climbs; last = w.last;
-  reads = λ o. subst (λ (t : ℕ). d.read ≤ t) (ap (λ (x : Course). x.taken.told) e) (told (ap (λ (x : Course). is_shut x.phase) e ∙ o)) })
+  few = w.few;
+  most = w.most;
+  ring = w.ring;
+  counted = w.counted;
+  climbs = w.climbs;
+  last = w.last;
+  reads = λ o. subst (λ (t : ℕ). d.read ≤ t) (ap (λ (x : Course). x.taken.told) e) (told (ap (λ (x : Course). is_shut x.phase) e ∙ o));
+})
 
 -- the same where only the phase has changed
 pub phase_only : (c d : Course) → d ≡ record c { phase = d.phase } → d ≡ record c { phase = d.phase; finished = d.finished }

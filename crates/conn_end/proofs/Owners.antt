@@ -78,14 +78,35 @@ checked_by size token m s e = record { spelled = e ∙ ap (λ t. validation size
 
 -- an end may take a validation message at any time, and a snapshot where a plain end may for which it stands
 pub may_take_check : (k : Kept) (token : ℕ) (m : CdcMessage) (s : Snapshot) → IsKept k → m ≡ validation k.size token s → MayLand k m s
-may_take_check k token m s w e = record { end = with_zeros k; sent = was_sent true s; lands = record {
-  stands = stands_for_zeros k w; spelling = checked_by k.size token m s e; taken = λ fresh. absurd (true≢false fresh) } }
+may_take_check k token m s w e = record {
+  end = with_zeros k;
+  sent = was_sent true s;
+  lands = record {
+    stands = stands_for_zeros k w;
+    spelling = checked_by k.size token m s e;
+    taken = λ fresh. absurd (true≢false fresh);
+  };
+}
 
 pub may_take_spelled : (k : Kept) (token : ℕ) (m : CdcMessage) (s : Snapshot) → IsKept k → m ≡ spelled k.size token s → ((h : Half) → StandsFor k h → MayTake k.size s h) → MayLand k m s
-may_take_spelled k token m s w e may = record { end = with_zeros k; sent = was_sent false s; lands = record {
-  stands = stands_for_zeros k w; spelling = spelled_by k.size token m s e; taken = λ fresh. may (with_zeros k) (stands_for_zeros k w) } }
+may_take_spelled k token m s w e may = record {
+  end = with_zeros k;
+  sent = was_sent false s;
+  lands = record {
+    stands = stands_for_zeros k w;
+    spelling = spelled_by k.size token m s e;
+    taken = λ fresh. may (with_zeros k) (stands_for_zeros k w);
+  };
+}
 
 -- the oldest snapshot under way may complete
 pub may_complete_oldest : (k : Kept) (token : ℕ) (m : CdcMessage) (s : Snapshot) → IsKept k → m ≡ spelled k.size token s → head k.course.flight ≡ Some s → MayComplete k m s
-may_complete_oldest k token m s w e first = record { end = with_zeros k; sent = was_sent false s; completes = record {
-  stands = stands_for_zeros k w; spelling = spelled_by k.size token m s e; oldest = λ fresh. first } }
+may_complete_oldest k token m s w e first = record {
+  end = with_zeros k;
+  sent = was_sent false s;
+  completes = record {
+    stands = stands_for_zeros k w;
+    spelling = spelled_by k.size token m s e;
+    oldest = λ fresh. first;
+  };
+}

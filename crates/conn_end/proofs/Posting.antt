@@ -58,9 +58,9 @@ module _ (size : ℕ) (ring : KeptRing) (count : ℕ) (c : Course) (w : IsWhole 
   posted_is s false told =
       posts_is (ring_of size ring.bytes c)
       ∙ ap (λ ps. record (ring_of size ring.bytes c) { posted = ps })
-        (a_snapshot_more_is_a_posting (ring_of size ring.bytes c) (tolds c.flight) (a_ring_is_sound ring (ring_of size ring.bytes c) w.ring) w.climbs refl
-        ∙ ap (λ t. rising c.fin.told (tolds c.flight ++ t ∷ [])) (w.counted ∙ sym told)
-        ∙ sym (ap (rising c.fin.told) (tolds_push c.flight s)))
+      (a_snapshot_more_is_a_posting (ring_of size ring.bytes c) (tolds c.flight) (a_ring_is_sound ring (ring_of size ring.bytes c) w.ring) w.climbs refl
+      ∙ ap (λ t. rising c.fin.told (tolds c.flight ++ t ∷ [])) (w.counted ∙ sym told)
+      ∙ sym (ap (rising c.fin.told) (tolds_push c.flight s)))
 
   no_less : (s : Snapshot) (b : Bool) → s.told ≡ cond b c.last.told count → last_from c.fin.told (tolds c.flight) ≤ s.told
   no_less s true told = omega (arith, told, w.last)
@@ -88,11 +88,11 @@ module _ (size : ℕ) (ring : KeptRing) (count : ℕ) (c : Course) (w : IsWhole 
 pub posted : (size : ℕ) (ring more : KeptRing) (count : ℕ) (c d : Course) (s : Snapshot) (h : Half) → Stands size ring count c h → length c.flight < c.depth → s.told ≡ cond s.aborted c.last.told count → RingStandsFor more (posts_for s (ring_of size ring.bytes c)) → d ≡ record c { last = s; number = s.number; flight = c.flight ++ s ∷ []; phase = after_posting s c.phase } → s ≡ present h → Stands size more count d (posts_batch h)
 posted size ring more count c d s h stands room told rings e is =
     stands_there size more count d (record h { sent = h.sent ++ batch h ∷ [] }) (posts_batch h)
-        (whole_posted size ring count c stands.whole more d s room told rings e)
-        stands.accepted
-        (bytes_stay size ring count c stands.whole more s told rings ∙ stands.bytes ∙ ap (λ (t : Snapshot). drop t.told h.out) (sym (ap (λ (x : Course). x.fin) e ∙ stands.fin)))
-        (ap (λ (x : Course). at_course x (record h { sent = h.sent ++ batch h ∷ [] })) e
-        ∙ ap₂ (λ (q : Half) (t : Snapshot). record q { sent = h.sent ++ batch h ∷ []; last = t; number = t.number; flight = q.flight ++ t ∷ []; phase = after_posting t q.phase }) (came size ring count c h stands) is)
+    (whole_posted size ring count c stands.whole more d s room told rings e)
+    stands.accepted
+    (bytes_stay size ring count c stands.whole more s told rings ∙ stands.bytes ∙ ap (λ (t : Snapshot). drop t.told h.out) (sym (ap (λ (x : Course). x.fin) e ∙ stands.fin)))
+    (ap (λ (x : Course). at_course x (record h { sent = h.sent ++ batch h ∷ [] })) e
+    ∙ ap₂ (λ (q : Half) (t : Snapshot). record q { sent = h.sent ++ batch h ∷ []; last = t; number = t.number; flight = q.flight ++ t ∷ []; phase = after_posting t q.phase }) (came size ring count c h stands) is)
 
 -- where the bytes of what is due go
 pub pieces_are : (size : ℕ) (ring : KeptRing) (count : ℕ) (c : Course) (h : Half) → Stands size ring count c h → pieces_for size (present h) (ring_of size ring.bytes c) ≡ (front_of size (batch h).from (present h).told, back_of size (batch h).from (present h).told)

@@ -38,7 +38,11 @@ pub whole_written : (size : ℕ) (ring more : KeptRing) (count n : ℕ) (c : Cou
 whole_written size ring more count n c bytes w fits stands =
     let w1 : length more.bytes ≡ length ring.bytes + min (ring_window (ring_of size ring.bytes c)) (length bytes) = ap length stands.bytes ∙ length-append ring.bytes (take (ring_window (ring_of size ring.bytes c)) bytes) ∙ ap (λ k. length ring.bytes + k) (length-take (ring_window (ring_of size ring.bytes c)) bytes) in
     record {
-      few = w.few; most = w.most; climbs = w.climbs; last = w.last; reads = w.reads;
+      few = w.few;
+      most = w.most;
+      climbs = w.climbs;
+      last = w.last;
+      reads = w.reads;
       ring = subst (λ bs. RingStandsFor more (ring_of size bs c)) (sym stands.bytes) stands;
       counted = omega (arith, w.counted, w1, fits);
     }
@@ -53,10 +57,10 @@ written size ring more count n c bytes h s none free fits stands =
     let len : length out ≡ length h.out + min w (length bytes) = length-append h.out (take w bytes) ∙ ap (λ k. length h.out + k) (length-take w bytes) in
     let low : c.fin.told ≤ length h.out = omega (arith, s.whole.counted, s.accepted) in
     stands_there size more (count + n) c (record h { out = out }) (accepts size bytes h)
-        (whole_written size ring more count n c bytes s.whole fits stands)
-        (omega (arith, s.accepted, len, fits, same))
-        (stands.bytes ∙ ap₂ (λ (bs : List ℕ) k. bs ++ take k bytes) (s.bytes ∙ ap (λ (t : Snapshot). drop t.told h.out) (sym s.fin)) same ∙ sym (drop-append-le c.fin.told h.out (take w bytes) low))
-        (ap (λ (q : Half). record q { out = out }) (came size ring count c h s) ∙ sym (takes_some size bytes h none' free'))
+    (whole_written size ring more count n c bytes s.whole fits stands)
+    (omega (arith, s.accepted, len, fits, same))
+    (stands.bytes ∙ ap₂ (λ (bs : List ℕ) k. bs ++ take k bytes) (s.bytes ∙ ap (λ (t : Snapshot). drop t.told h.out) (sym s.fin)) same ∙ sym (drop-append-le c.fin.told h.out (take w bytes) low))
+    (ap (λ (q : Half). record q { out = out }) (came size ring count c h s) ∙ sym (takes_some size bytes h none' free'))
 
 -- a list is empty where its length is 0
 pub nil_is : (bytes : List ℕ) → (length bytes == 0) ≡ is_nil bytes

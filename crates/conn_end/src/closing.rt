@@ -22,24 +22,37 @@ pub(crate) enum Step {
 
 // The phases of the table.
 const OPEN: u8 = 0;
+
 const FINISHED: u8 = 1;
+
 const CLOSING: u8 = 2;
+
 const CLOSE_POSTED: u8 = 3;
+
 const CLOSE_DONE: u8 = 4;
+
 const RESETTING: u8 = 5;
+
 const ABORT_POSTED: u8 = 6;
+
 const ABORT_DONE: u8 = 7;
 
 // The steps of the table.
 const FINISH: u8 = 0;
+
 const CLOSE: u8 = 1;
+
 const ABORT: u8 = 2;
+
 const STRIKE: u8 = 3;
 
 // The actions of the table: the phase stays, or goes on to finished, closing or resetting.
 const STAY: u8 = 0;
+
 const TO_FINISHED: u8 = 1;
+
 const TO_CLOSING: u8 = 2;
+
 const TO_RESETTING: u8 = 3;
 
 // One row.

@@ -15,8 +15,8 @@ ghost use Rattle.conn_end.specs.Table.{after_step, told_step};
 
 use crate::answers::{EndReply, Taken};
 use crate::closing::{
-    cause_of, closing, finished, group_gone, on_completion, on_group_end, on_move, on_posting,
-    ClosingTable, Step,
+    ClosingTable, Step, cause_of, closing, finished, group_gone, on_completion, on_group_end,
+    on_move, on_posting,
 };
 use crate::spelling::{first, same_told, wire};
 use circular_buffer::HeapCircularBuffer;
@@ -63,8 +63,9 @@ impl Course {
     pub(crate) fn new(alloc: Global, depth: u8, number: u16) -> Result<Course, NoMemory>
         ensures { IfOk result (λ c. c ≡ course_of depth (fresh number)) }
     {
-        let flight =
-            HeapCircularBuffer::with_capacity(alloc, depth as usize).map_err(|_| NoMemory)?;
+        let flight = HeapCircularBuffer::with_capacity(alloc, depth as usize).map_err(
+            |_| NoMemory,
+        )?;
         let first = first(number);
         Ok(Course {
             depth,
@@ -277,8 +278,12 @@ impl Course {
     /// It posts a snapshot, for which the flight has room.
     pub(crate) fn post(&mut self, s: Snapshot)
         requires { length self.old.flight < self.old.depth }
-        ensures { self.new ≡ record self.old { last = s; number = s.number; flight = self.old.flight ++ s ∷ [];
-            phase = after_posting s self.old.phase } }
+        ensures { self.new ≡ record self.old {
+          last = s;
+          number = s.number;
+          flight = self.old.flight ++ s ∷ [];
+          phase = after_posting s self.old.phase;
+        } }
     {
         self.flight.push_back(s);
         self.last = s;

@@ -3,7 +3,7 @@ ghost use Rattle.std.specs.Prelude.{◌≡◌, ◌<◌, true};
 ghost use Rattle.smc_num.specs.Numbers.{wire_number, cursor_of};
 ghost use Rattle.pipe_model.specs.Snapshot.{state_flags, spelled, validation, first_snapshot, tells_same, is_last, is_validation};
 
-use cdc_wire::{CdcMessage, ABNORMAL_CLOSE, CLOSED, FAILOVER_VALIDATION, SENDING_DONE};
+use cdc_wire::{ABNORMAL_CLOSE, CLOSED, CdcMessage, FAILOVER_VALIDATION, SENDING_DONE};
 use pipe_model::Snapshot;
 use smc_num::Cursor;
 

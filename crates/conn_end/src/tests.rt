@@ -215,7 +215,10 @@ fn bytes_are_handed_out_until_a_gap_is_found(rt: HostRuntime) -> Result<(), Fail
             Does::Read(9),
             Gives::Told(EndReply::Take { from: 3, len: 2 }),
         ),
-        (Does::Check(3), Gives::Found(Taken::Gap { told: 3, taken: 2 })),
+        (
+            Does::Check(3),
+            Gives::Found(Taken::Gap { told: 3, taken: 2 }),
+        ),
         (Does::Read(1), Gives::Told(EndReply::Reset(gap))),
         (Does::Finish, Gives::Told(EndReply::Reset(gap))),
         (Does::Complete, Gives::Nothing),

@@ -28,6 +28,6 @@ pub returns-clause-told : goal.returns-clause-told
 returns-clause-told c = λ h.
     let x = c.self.inside in
     subst (λ (v : Kept). StandsFor v h → Answers v.size Aborts h c.told-reply.result) c.self.view_is (λ (s : Stands x.size x.ring x.accepted x.course h).
-      answers x.size Aborts c.told-reply.result x.ring x.accepted x.course h s
-      (λ peer_out. c.told-reply.ensures x.course.read peer_out ∙ abort_is x.size (at_course x.course h) peer_out (cause_of x.course.phase))
-      (step_placed x.size x.course.read c.told-reply.result Abort (cause_of x.course.phase) x.course.phase (c.told-reply.ensures x.course.read [])))
+    answers x.size Aborts c.told-reply.result x.ring x.accepted x.course h s
+    (λ peer_out. c.told-reply.ensures x.course.read peer_out ∙ abort_is x.size (at_course x.course h) peer_out (cause_of x.course.phase))
+    (step_placed x.size x.course.read c.told-reply.result Abort (cause_of x.course.phase) x.course.phase (c.told-reply.ensures x.course.read [])))

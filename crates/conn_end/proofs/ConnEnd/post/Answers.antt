@@ -42,6 +42,6 @@ returns-clause-batch c = λ h.
     let x = c.self.inside in
     subst (λ (v : Kept). StandsFor v h → c.args.present ≡ present h → ◌≡◌ {A = Batch} (record { check = c.args.check; pieces = c.post_bytes-pieces.result; message = Some c.spell.result }) (due_with v h c.args.check)) c.self.view_is
     (λ (s : Stands x.size x.ring x.accepted x.course h) is.
-      ap₂ (λ (ps : Piece × Piece) (m : CdcMessage). record { check = c.args.check; pieces = ps; message = Some m })
-      (c.post_bytes-pieces.ensures.pieces (ring_of x.size x.ring.bytes x.course) c.self.invariant.ring ∙ ap (λ (t : Snapshot). pieces_for x.size t (ring_of x.size x.ring.bytes x.course)) is ∙ pieces_are x.size x.ring x.accepted x.course h s)
-      (c.spell.ensures ∙ ap (spelled x.size x.token) is))
+    ap₂ (λ (ps : Piece × Piece) (m : CdcMessage). record { check = c.args.check; pieces = ps; message = Some m })
+    (c.post_bytes-pieces.ensures.pieces (ring_of x.size x.ring.bytes x.course) c.self.invariant.ring ∙ ap (λ (t : Snapshot). pieces_for x.size t (ring_of x.size x.ring.bytes x.course)) is ∙ pieces_are x.size x.ring x.accepted x.course h s)
+    (c.spell.ensures ∙ ap (spelled x.size x.token) is))

@@ -13,5 +13,5 @@ pub returns-clause-check : goal.returns-clause-check
 returns-clause-check c = λ h.
     let x = c.self.inside in
     subst (λ (v : Kept). StandsFor v h → ◌≡◌ {A = Option CdcMessage} (Some c.spell_check.result) (owed_by v h)) c.self.view_is (λ (s : Stands x.size x.ring x.accepted x.course h).
-      ap Some (c.spell_check.ensures ∙ ap (validation x.size x.token) (c.check.ensures h ∙ ap (λ (q : Half). (check q).snapshot) (came x.size x.ring x.accepted x.course h s)))
-      ∙ sym (ap (λ (b : Bool). cond b (Some (validation x.size x.token (check h).snapshot)) None) c.if-not-self.false))
+    ap Some (c.spell_check.ensures ∙ ap (validation x.size x.token) (c.check.ensures h ∙ ap (λ (q : Half). (check q).snapshot) (came x.size x.ring x.accepted x.course h s)))
+    ∙ sym (ap (λ (b : Bool). cond b (Some (validation x.size x.token (check h).snapshot)) None) c.if-not-self.false))

@@ -22,16 +22,16 @@ pub returns-then-is_ended-clause-told : goal.returns-then-is_ended-clause-told
 returns-then-is_ended-clause-told c = λ h.
     let x = c.self.inside in
     subst (λ (v : Kept). StandsFor v h → Answers v.size (Writes c.args.bytes.now) h Ended) c.self.view_is (λ (s : Stands x.size x.ring x.accepted x.course h).
-      ended_answers x.size c.args.bytes.now h (ap cause_of (sym s.phase) ∙ sym c.cause.ensures ∙ c.in_default.is)
-      (ap is_ended (sym (came x.size x.ring x.accepted x.course h s)) ∙ sym (c.is_ended.ensures h) ∙ c.if-is_ended.true))
+    ended_answers x.size c.args.bytes.now h (ap cause_of (sym s.phase) ∙ sym c.cause.ensures ∙ c.in_default.is)
+    (ap is_ended (sym (came x.size x.ring x.accepted x.course h s)) ∙ sym (c.is_ended.ensures h) ∙ c.if-is_ended.true))
 
 pub returns-then-is_empty-clause-told : goal.returns-then-is_empty-clause-told
 returns-then-is_empty-clause-told c = λ h.
     let x = c.self.inside in
     subst (λ (v : Kept). StandsFor v h → Answers v.size (Writes c.args.bytes.now) h (Wrote 0)) c.self.view_is (λ (s : Stands x.size x.ring x.accepted x.course h).
-      nothing_answers x.size c.args.bytes.now h (ap cause_of (sym s.phase) ∙ sym c.cause.ensures ∙ c.in_default.is)
-      (ap is_ended (sym (came x.size x.ring x.accepted x.course h s)) ∙ sym (c.is_ended.ensures h) ∙ c.if-is_ended.false)
-      (sym (nil_is c.args.bytes.now) ∙ sym c.is_empty.ensures ∙ c.if-is_empty.true))
+    nothing_answers x.size c.args.bytes.now h (ap cause_of (sym s.phase) ∙ sym c.cause.ensures ∙ c.in_default.is)
+    (ap is_ended (sym (came x.size x.ring x.accepted x.course h s)) ∙ sym (c.is_ended.ensures h) ∙ c.if-is_ended.false)
+    (sym (nil_is c.args.bytes.now) ∙ sym c.is_empty.ensures ∙ c.if-is_empty.true))
 
 pub returns-clause-end : goal.returns-clause-end
 returns-clause-end c = λ h stands.
@@ -46,8 +46,8 @@ pub returns-clause-told : goal.returns-clause-told
 returns-clause-told c = λ h.
     let x = c.self.inside in
     subst (λ (v : Kept). StandsFor v h → Answers v.size (Writes c.args.bytes.now) h c.wrote.result) c.self.view_is (λ (s : Stands x.size x.ring x.accepted x.course h).
-      subst (λ (r : EndReply). Answers x.size (Writes c.args.bytes.now) h r) (sym c.wrote.ensures)
-      (write_answers x.size c.accept-count.result c.args.bytes.now h (ap cause_of (sym s.phase) ∙ sym c.cause.ensures ∙ c.in_default.is)
-      (ap is_ended (sym (came x.size x.ring x.accepted x.course h s)) ∙ sym (c.is_ended.ensures h) ∙ c.if-is_ended.false)
-      (sym (nil_is c.args.bytes.now) ∙ sym c.is_empty.ensures ∙ c.if-is_empty.false)
-      (c.accept-count.ensures.count (ring_of x.size x.ring.bytes x.course) s.whole.ring ∙ ap (λ w. min (length c.args.bytes.now) w) (window_is x.size x.ring x.accepted x.course h s))))
+    subst (λ (r : EndReply). Answers x.size (Writes c.args.bytes.now) h r) (sym c.wrote.ensures)
+    (write_answers x.size c.accept-count.result c.args.bytes.now h (ap cause_of (sym s.phase) ∙ sym c.cause.ensures ∙ c.in_default.is)
+    (ap is_ended (sym (came x.size x.ring x.accepted x.course h s)) ∙ sym (c.is_ended.ensures h) ∙ c.if-is_ended.false)
+    (sym (nil_is c.args.bytes.now) ∙ sym c.is_empty.ensures ∙ c.if-is_empty.false)
+    (c.accept-count.ensures.count (ring_of x.size x.ring.bytes x.course) s.whole.ring ∙ ap (λ w. min (length c.args.bytes.now) w) (window_is x.size x.ring x.accepted x.course h s))))
