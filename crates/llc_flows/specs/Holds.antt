@@ -12,7 +12,7 @@ use Rattle.pipe_model.specs.declared.verdict.Lacks.{Lacks}
 use Rattle.pipe_model.specs.Flows.{Flow, LinkFlow, is_first_contact, is_adding, is_asked, is_deleting}
 use Rattle.pipe_model.specs.Replies.{is_asking_or_waiting}
 
--- whether the group of a side holds its own handshakes back: only the server's does
+-- whether first contact holds a key of the handshake back: only at the server
 abbrev pub holds_contact : Side → LinkFlow → Bool
 holds_contact A link = false
 holds_contact B link = is_first_contact link
