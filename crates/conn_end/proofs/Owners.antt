@@ -1,5 +1,5 @@
 -- That what is kept stands for some plain end, and for each that differs only in what its owner knows; what an await is told.
-use Rattle.std.proofs.Common.{◌≡◌, ◌∙◌, ℕ, ◌+◌, Bool, true, false, cond, zero, suc, List, [], ◌∷◌, ◌++◌, length, drop, refl, sym, ap, arith, replicate, true≢false}
+use Rattle.std.proofs.Common.{◌≡◌, ◌∙◌, ℕ, Bool, true, false, cond, zero, suc, List, ◌++◌, drop, refl, sym, ap, arith, replicate, true≢false}
 use Rattle.std.specs.Prelude.{Option, Some, None}
 use Rattle.std.proofs.lemmas.List.{length-append, length-replicate}
 use Rattle.smc_num.specs.declared.LinkId.{LinkId}
@@ -17,7 +17,7 @@ use Rattle.pipe_model.specs.Parts.{MayTake}
 use Rattle.conn_end.specs.Arrivals.{IsSpelling, MayLand, MayComplete}
 use Rattle.pipe_model.specs.Closing.{cause_of}
 use Rattle.pipe_model.specs.Ends.{Half, fresh, meets_fate}
-use Rattle.pipe_model.specs.Calls.{Told, Plain, Hands, Reads, Awaits, is_waiting, half_told}
+use Rattle.pipe_model.specs.Calls.{Told, Plain, Reads, Awaits, is_waiting, half_told}
 use Rattle.conn_end.specs.declared.answers.EndReply.{EndReply}
 use Rattle.conn_end.specs.declared.answers.EndReply.TheVariants.{Wrote, Full, Take, Empty, End, Ended, Done, Reset}
 use Rattle.conn_end.specs.Kept.{Kept, IsKept, StandsFor, at_course}

@@ -1,20 +1,17 @@
 -- What is due, and what is kept once it was posted.
-use Rattle.std.proofs.Common.{◌≡◌, ◌∙◌, ℕ, ◌+◌, ◌-◌, ◌%◌, ◌<◌, ◌≤◌, ◌==◌, Bool, true, false, not, ◌&&◌, cond, nat_lt, List, [], ◌∷◌, ◌++◌, length, drop, map, min, Some, None, refl, sym, ap, ap₂, subst, arith, true≢false}
-use Rattle.std.specs.Prelude.{is_some, Option}
+use Rattle.std.proofs.Common.{◌≡◌, ◌∙◌, ℕ, ◌+◌, ◌-◌, ◌%◌, ◌<◌, ◌≤◌, ◌==◌, Bool, true, false, cond, List, [], ◌∷◌, ◌++◌, length, drop, min, refl, sym, ap, ap₂, subst, arith}
+use Rattle.std.specs.Prelude.{is_some}
 use Rattle.std.proofs.lemmas.List.{length-append, length-map, map-append}
-use Rattle.smc_num.specs.Names.{has_link}
 use Rattle.cdc_ring.specs.declared.Piece.{Piece}
 use Rattle.cdc_ring.specs.Rings.{Ring, last_from, last_posted, accepted, unposted, front_piece, back_piece, posts}
 use Rattle.cdc_ring.specs.Flights.{Climbs, rising}
 use Rattle.cdc_ring.specs.Kept.{Kept as KeptRing, StandsFor as RingStandsFor}
 use Rattle.cdc_ring.proofs.Flying.{a_ring_is_sound, the_last_snapshot_tells_the_last_posted_byte, a_snapshot_more_is_a_posting, a_snapshot_without_bytes_is_no_posting, postings_are_no_more_than_snapshots}
 use Rattle.pipe_model.specs.declared.snapshot.Snapshot.{Snapshot}
-use Rattle.pipe_model.specs.declared.closing.Phase.{Phase}
-use Rattle.pipe_model.specs.Snapshot.{tells_same}
-use Rattle.pipe_model.specs.Closing.{cause_of, is_group_gone, after_posting}
-use Rattle.pipe_model.specs.Ends.{Half, present, batch, is_due, posts_batch, settle}
+use Rattle.pipe_model.specs.Closing.{cause_of, after_posting}
+use Rattle.pipe_model.specs.Ends.{Half, present, batch, posts_batch}
 use Rattle.conn_end.specs.Kept.{Course, at_course, ring_of, tolds, IsWhole}
-use Rattle.conn_end.specs.Batches.{front_of, back_of, no_piece, may_post, pieces_for, posts_for}
+use Rattle.conn_end.specs.Batches.{front_of, back_of, no_piece, pieces_for, posts_for}
 use Rattle.conn_end.proofs.Ends.{Stands, came, stands_there}
 use Rattle.conn_end.proofs.Arriving.{last_within}
 use Rattle.conn_end.proofs.Phases.{open_before_posting}

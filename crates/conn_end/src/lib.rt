@@ -7,7 +7,7 @@
 //! are plain, so a message that comes is handed in beside the plain snapshot that it spells.
 #![tactic(auto)]
 
-ghost use Rattle.std.specs.Prelude.{◌≡◌, ◌<◌, ◌≤◌, ◌^◌, ◌&&◌, ◌||◌, ℕ, true, false, not, List, Some, length, IfOk};
+ghost use Rattle.std.specs.Prelude.{◌≡◌, ◌<◌, ◌≤◌, ◌^◌, ◌&&◌, ◌||◌, ℕ, true, false, not, Some, length, IfOk};
 ghost use Rattle.pipe_model.specs.Words.{is_nil};
 ghost use Rattle.pipe_model.specs.Snapshot.{is_last};
 ghost use Rattle.cdc_ring.specs.Rings.{Ring};
