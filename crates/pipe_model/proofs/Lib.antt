@@ -21,3 +21,7 @@ pub mod Whole
 pub mod Spelling
 pub mod Carried
 mod PartExamples
+pub mod FewSnapshots
+pub mod Lasting
+pub mod Unswallowed
+pub mod ToldLast

@@ -1,10 +1,10 @@
 -- Parts that can be, worked out: bytes that come twice after a move, a gap, and two where less would be too much to ask.
-use Rattle.std.proofs.Common.{◌≡◌, List, [], ◌∷◌, true, false, refl, arith}
+use Rattle.std.proofs.Common.{◌≡◌, List, [], ◌∷◌, true, refl, arith}
 use Rattle.smc_num.specs.declared.Side.TheVariants.{A, B}
 use Rattle.smc_num.specs.declared.LinkId.{LinkId}
 use Rattle.smc_num.specs.declared.LinkPhase.TheVariants.{Live, Dead}
 use Rattle.pipe_model.specs.declared.reply.ResetCause.TheVariants.{Gap}
-use Rattle.pipe_model.specs.Closing.{ClosePosted, Resetting, AbortPosted}
+use Rattle.pipe_model.specs.Closing.{AbortPosted}
 use Rattle.pipe_model.specs.Calls.{Writes, Reads, Closes, Aborts, Moves}
 use Rattle.pipe_model.specs.Pipe.{Terms, Item, Fate, Up, Calls, Lands, Completes, pipe, is_near_part}
 use Rattle.pipe_model.specs.Parts.{IsFeasible, covered, is_broken}

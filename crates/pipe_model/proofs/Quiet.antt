@@ -1,7 +1,7 @@
 -- Behind the last snapshot that an end tells, closed or aborted, no message of it carries bytes.
 use Rattle.std.proofs.Common.{◌≡◌, ◌∙◌, ℕ, ◌+◌, ◌<◌, ◌≤◌, ◌==◌, ◌⊎◌, inl, inr, min, max, Bool, true, false, List, [], ◌∷◌, ◌++◌, length, take, drop, refl, ap, sym, subst, arith, if◌then◌else◌, ◌||◌, true≢false}
 use Rattle.std.specs.Prelude.{Some, is_some}
-use Rattle.std.proofs.lemmas.Bool.{eqb-true}
+use Rattle.std.proofs.lemmas.Bool.{or_right, eqb-true}
 use Rattle.std.proofs.lemmas.List.{drop-append-le}
 use Rattle.std.proofs.Math.Seq.{drop-append_seam}
 use Rattle.smc_num.specs.declared.Side.{Side}
@@ -19,21 +19,16 @@ use Rattle.pipe_model.specs.Closing.{Phase, Open, Finished, Closing, ClosePosted
 use Rattle.pipe_model.specs.Ends.{Half, Sent, fresh, settle, is_due, is_over, is_due_for_move, meets_fate, loses_group, moves, takes, takes_snapshot, validates, strikes, lands, completes, counts_completed, check, lowest_link, present, batch, posts_batch, window, unread, to_land, to_complete}
 use Rattle.pipe_model.specs.Calls.{Call, Writes, Reads, Finishes, Closes, Aborts, Awaits, Moves, calls, is_ended}
 use Rattle.pipe_model.specs.Pipe.{Pipe, Terms, Item, Fate, GroupEnd, Up, Calls, Lands, Completes, half, pipe, apply}
-use Rattle.pipe_model.specs.Parts.{actor, CanFollow, IsFeasible, EachOf, CarriesNone, EndsWithLast}
+use Rattle.pipe_model.specs.Parts.{actor, CanFollow, IsFeasible, EachOf, CarriesNone, EndsWithLast, has_last}
 use Rattle.pipe_model.proofs.Chains.{next-of}
 use Rattle.pipe_model.proofs.Sound.{Both}
 use Rattle.pipe_model.proofs.Items.{lt-or, next-completes}
 use Rattle.pipe_model.proofs.Parts.{BothOf, both, both-after}
-use Rattle.pipe_model.proofs.Shuts.{or-cases, and-parts, or-right}
+use Rattle.pipe_model.proofs.Shuts.{or-cases, and-parts}
 
 -- that an end adds no bytes any more: it is reset, or it closes behind completed bytes
 abbrev pub IsSpent : ℕ → ℕ → Phase → Type 0
 IsSpent fin out phase = (is_some (cause_of phase) ≡ true) ⊎ ((is_closing phase ≡ true) × (fin ≡ out))
-
--- whether one of the messages is the last one to tell anything
-abbrev pub has_last : List Sent → Bool
-has_last [] = false
-has_last (m ∷ ms) = is_last m.snapshot || has_last ms
 
 -- that no message behind such a one carries bytes
 abbrev pub QuietBehind : List Sent → Type 0
@@ -61,43 +56,43 @@ not-open : (fin out : ℕ) (p : Phase) → is_some (cause_of p) ≡ false → is
 not-open fin out p e f (inl g) = sym g ∙ e
 not-open fin out p e f (inr g) = sym g.0 ∙ f
 
-finish-spent : (fin out : ℕ) (p : Phase) → IsSpent fin out p → IsSpent fin out (after_finish p)
+pub finish-spent : (fin out : ℕ) (p : Phase) → IsSpent fin out p → IsSpent fin out (after_finish p)
 finish-spent fin out Open e = e
 finish-spent fin out p e = e
 
-close-spent : (fin out : ℕ) (p : Phase) → IsSpent fin out p → IsSpent fin out (after_close p)
+pub close-spent : (fin out : ℕ) (p : Phase) → IsSpent fin out p → IsSpent fin out (after_close p)
 close-spent fin out Open e = absurd (true≢false (not-open fin out Open refl refl e))
 close-spent fin out Finished e = absurd (true≢false (not-open fin out Finished refl refl e))
 close-spent fin out p e = e
 
-abort-spent : (fin out : ℕ) (p : Phase) → IsSpent fin out p → IsSpent fin out (after_abort p)
+pub abort-spent : (fin out : ℕ) (p : Phase) → IsSpent fin out p → IsSpent fin out (after_abort p)
 abort-spent fin out Open e = inl refl
 abort-spent fin out Finished e = inl refl
 abort-spent fin out p e = e
 
-struck-spent : (fin out : ℕ) (c : ResetCause) (p : Phase) → IsSpent fin out p → IsSpent fin out (struck c p)
+pub struck-spent : (fin out : ℕ) (c : ResetCause) (p : Phase) → IsSpent fin out p → IsSpent fin out (struck c p)
 struck-spent fin out c Open e = inl refl
 struck-spent fin out c Finished e = inl refl
 struck-spent fin out c Closing e = inl refl
 struck-spent fin out c p e = e
 
-ended-spent : (fin out g : ℕ) (p : Phase) → IsSpent fin out p → IsSpent fin out (ended_with g p)
+pub ended-spent : (fin out g : ℕ) (p : Phase) → IsSpent fin out p → IsSpent fin out (ended_with g p)
 ended-spent fin out g Open e = inl refl
 ended-spent fin out g Finished e = inl refl
 ended-spent fin out g Closing e = inl refl
 ended-spent fin out g p e = e
 
-posting-spent : (fin out : ℕ) (s : Snapshot) (p : Phase) → IsSpent fin out p → IsSpent fin out (after_posting s p)
+pub posting-spent : (fin out : ℕ) (s : Snapshot) (p : Phase) → IsSpent fin out p → IsSpent fin out (after_posting s p)
 posting-spent fin out s Closing e = spent-if fin out s.closed ClosePosted Closing e e
 posting-spent fin out s (Resetting c) e = inl refl
 posting-spent fin out s p e = e
 
-completing-spent : (fin out : ℕ) (s : Snapshot) (p : Phase) → IsSpent fin out p → IsSpent fin out (after_completing s p)
+pub completing-spent : (fin out : ℕ) (s : Snapshot) (p : Phase) → IsSpent fin out p → IsSpent fin out (after_completing s p)
 completing-spent fin out s ClosePosted e = spent-if fin out s.closed CloseDone ClosePosted e e
 completing-spent fin out s (AbortPosted c) e = spent-if fin out s.aborted (AbortDone c) (AbortPosted c) e e
 completing-spent fin out s p e = e
 
-moving-spent : (fin out : ℕ) (p : Phase) → IsSpent fin out p → IsSpent fin out (after_moving p)
+pub moving-spent : (fin out : ℕ) (p : Phase) → IsSpent fin out p → IsSpent fin out (after_moving p)
 moving-spent fin out ClosePosted e = e
 moving-spent fin out (AbortPosted c) e = e
 moving-spent fin out p e = e
@@ -122,7 +117,7 @@ behind-append : (ms : List Sent) (m : Sent) → QuietBehind ms → (has_last ms 
 behind-append [] m q f = (λ _. tt, tt)
 behind-append (k ∷ ms) m q f = (
   λ e. none-append ms m (q.0 e) (f (ap (λ b. b || has_last ms) e)),
-  behind-append ms m q.1 (λ e. f (or-right (is_last k.snapshot) (has_last ms) e)),
+  behind-append ms m q.1 (λ e. f (or_right (is_last k.snapshot) (has_last ms) e)),
 )
 
 last-of : (a b c : Bool) → (b ≡ true → c ≡ true) → (a || b) ≡ true → (a || c) ≡ true
@@ -138,14 +133,14 @@ last-append [] m e = inr (either-of (or-cases (is_last m.snapshot) false e))
 last-append (k ∷ ms) m e = split (or-cases (is_last k.snapshot) (has_last (ms ++ m ∷ [])) e) (last-append ms m)
   where
     later : (has_last ms ≡ true) ⊎ (is_last m.snapshot ≡ true) → ((is_last k.snapshot || has_last ms) ≡ true) ⊎ (is_last m.snapshot ≡ true)
-    later (inl f) = inl (or-right (is_last k.snapshot) (has_last ms) f)
+    later (inl f) = inl (or_right (is_last k.snapshot) (has_last ms) f)
     later (inr f) = inr f
 
     split : (is_last k.snapshot ≡ true) ⊎ (has_last (ms ++ m ∷ []) ≡ true) → (has_last (ms ++ m ∷ []) ≡ true → (has_last ms ≡ true) ⊎ (is_last m.snapshot ≡ true)) → ((is_last k.snapshot || has_last ms) ≡ true) ⊎ (is_last m.snapshot ≡ true)
     split (inl f) g = inl (ap (λ b. b || has_last ms) f)
     split (inr f) g = later (g f)
 
-present-spent : (h : Half) → is_last (present h) ≡ true → IsSpent h.fin.told (length h.out) h.phase
+pub present-spent : (h : Half) → is_last (present h) ≡ true → IsSpent h.fin.told (length h.out) h.phase
 present-spent h e = by (or-cases (present h).closed (present h).aborted e)
   where
     by : ((present h).closed ≡ true) ⊎ ((present h).aborted ≡ true) → IsSpent h.fin.told (length h.out) h.phase
@@ -194,17 +189,21 @@ settled size depth h k b q =
     by false x y = x
 
 -- calls
+-- an end that accepts bytes isn't spent
+pub accepts-unspent : (h : Half) → (is_some (cause_of h.phase) || is_ended h) ≡ false → IsSpent h.fin.told (length h.out) h.phase → true ≡ false
+accepts-unspent h e s = by (is_some (cause_of h.phase)) (is_closing h.phase) h.taken.closed (is_finished h.phase) e s
+  where
+    by : (c l t f : Bool) → (c || ((l || t) || f)) ≡ false → (c ≡ true) ⊎ ((l ≡ true) × (h.fin.told ≡ length h.out)) → true ≡ false
+    by c l t f e (inl g) = ap (λ b. b || ((l || t) || f)) (sym g) ∙ e
+    by true l t f e (inr g) = e
+    by false l t f e (inr g) = ap (λ b. (b || t) || f) (sym g.0) ∙ e
+
 accepts-quiet : (h k : Half) (bytes : List ℕ) (b : Bool) → (is_some (cause_of h.phase) || is_ended h) ≡ b → QuietBoth h k → QuietBoth (if b then h else record h { out = h.out ++ bytes }) k
 accepts-quiet h k bytes true e q = q
 accepts-quiet h k bytes false e q = (
-  respent (to_land h) k.taken h.fin.told (length h.out) h.fin.told (length (h.out ++ bytes)) h.phase h.phase (λ s. absurd (true≢false (not-ended (is_some (cause_of h.phase)) (is_closing h.phase) h.taken.closed (is_finished h.phase) e s))) q.0,
+  respent (to_land h) k.taken h.fin.told (length h.out) h.fin.told (length (h.out ++ bytes)) h.phase h.phase (λ s. absurd (true≢false (accepts-unspent h e s))) q.0,
   q.1,
 )
-  where
-    not-ended : (c l t f : Bool) → (c || ((l || t) || f)) ≡ false → (c ≡ true) ⊎ ((l ≡ true) × (h.fin.told ≡ length h.out)) → true ≡ false
-    not-ended c l t f e (inl g) = ap (λ b. b || ((l || t) || f)) (sym g) ∙ e
-    not-ended true l t f e (inr g) = e
-    not-ended false l t f e (inr g) = ap (λ b. (b || t) || f) (sym g.0) ∙ e
 
 moves-quiet : (h k : Half) → QuietBoth h k → QuietBoth (moves h) k
 moves-quiet h k q =
@@ -247,14 +246,14 @@ group-quiet h k q = (own h k (ended_with h.link.group h.phase) (ended-spent h.fi
 passed : (m : Sent) (ms : List Sent) (taken : Snapshot) (fin out : ℕ) (p : Phase) → Quiet (m ∷ ms) taken fin out p → Quiet ms taken fin out p
 passed m ms taken fin out p q = record {
   behind = let b = q.behind in b.1;
-  posted = λ e. q.posted (or-right (is_last m.snapshot) (has_last ms) e);
+  posted = λ e. q.posted (or_right (is_last m.snapshot) (has_last ms) e);
   taken = λ e. let c = q.taken e in let n = c.0 in (n.1, c.1);
 }
 
 taken : (m : Sent) (ms : List Sent) (before : Snapshot) (fin out : ℕ) (p : Phase) → Quiet (m ∷ ms) before fin out p → Quiet ms m.snapshot fin out p
 taken m ms before fin out p q = record {
   behind = let b = q.behind in b.1;
-  posted = λ e. q.posted (or-right (is_last m.snapshot) (has_last ms) e);
+  posted = λ e. q.posted (or_right (is_last m.snapshot) (has_last ms) e);
   taken = λ e. let b = q.behind in (b.0 e, q.posted (ap (λ c. c || has_last ms) e));
 }
 
@@ -287,7 +286,7 @@ counted-by h k (inr l) more o q =
     subst (λ n. Quiet (drop n h.sent) k.taken h.fin.told (length h.out) h.phase) e
     (passed next.0 (drop (h.landed + 1) h.sent) k.taken h.fin.told (length h.out) h.phase (subst (λ ms. Quiet ms k.taken h.fin.told (length h.out) h.phase) next.1 q))
 
-refined : (fin out told : ℕ) (p : Phase) → fin ≤ told → told ≤ out → IsSpent fin out p → IsSpent told out p
+pub refined : (fin out told : ℕ) (p : Phase) → fin ≤ told → told ≤ out → IsSpent fin out p → IsSpent told out p
 refined fin out told p a b (inl e) = inl e
 refined fin out told p a b (inr e) = inr (e.0, omega (arith, e.1))
 

@@ -1,7 +1,7 @@
 -- An end that has taken an aborted snapshot, or told its last one, is reset or closing, and closed is told only behind completed bytes.
 use Rattle.std.proofs.Common.{◌≡◌, ◌∙◌, ℕ, ◌+◌, ◌<◌, ◌≤◌, ◌==◌, ◌⊎◌, inl, inr, min, Bool, true, false, List, [], ◌∷◌, ◌++◌, length, take, drop, refl, ap, sym, subst, arith, if◌then◌else◌, ◌||◌, ◌&&◌, true≢false}
 use Rattle.std.specs.Prelude.{Option, Some, None, is_some}
-use Rattle.std.proofs.lemmas.Bool.{eqb-true}
+use Rattle.std.proofs.lemmas.Bool.{or_right, eqb-true}
 use Rattle.smc_num.specs.declared.Side.{Side}
 use Rattle.smc_num.specs.declared.Side.TheVariants.{A, B}
 use Rattle.smc_num.specs.declared.LinkId.{LinkId}
@@ -132,15 +132,11 @@ pub and-parts : (a b : Bool) → (a && b) ≡ true → (a ≡ true) × (b ≡ tr
 and-parts true b e = (refl, e)
 and-parts false b e = absurd (true≢false (sym e))
 
-pub or-right : (a b : Bool) → b ≡ true → (a || b) ≡ true
-or-right true b e = refl
-or-right false b e = e
-
 posted-closed : (h : Half) → ShutOf h → (some_of tells_closed h.fin h.flight ≡ true) ⊎ ((present h).closed ≡ true) → (is_shut h.phase ≡ true) × (h.fin.told ≡ length h.out)
 posted-closed h s (inl e) = s.closed e
 posted-closed h s (inr e) =
     let p = and-parts (is_closing h.phase) (h.fin.told == length h.out) e in
-    (or-right (is_some (cause_of h.phase)) (is_closing h.phase) p.0, eqb-true h.fin.told (length h.out) p.1)
+    (or_right (is_some (cause_of h.phase)) (is_closing h.phase) p.0, eqb-true h.fin.told (length h.out) p.1)
 
 posted-aborted : (h : Half) → ShutOf h → (some_of tells_aborted h.fin h.flight ≡ true) ⊎ ((present h).aborted ≡ true) → is_shut h.phase ≡ true
 posted-aborted h s (inl e) = s.aborted e
@@ -214,7 +210,7 @@ takes-shut (Some m) h s = either h (if m.check then validates m.snapshot.number 
 some-later : (g : Snapshot → Bool) (fin r : Snapshot) (flight rest : List Snapshot) → flight ≡ r ∷ rest → some_of g r (drop 1 flight) ≡ true → some_of g fin flight ≡ true
 some-later g fin r flight rest i e =
     let tail : drop 1 flight ≡ rest = ap (λ ss. drop 1 ss) i in
-    ap (λ ss. some_of g fin ss) i ∙ or-right (g fin) (some_of g r rest) (ap (λ ss. some_of g r ss) (sym tail) ∙ e)
+    ap (λ ss. some_of g fin ss) i ∙ or_right (g fin) (some_of g r rest) (ap (λ ss. some_of g r ss) (sym tail) ∙ e)
 
 completed-shut : (size depth : ℕ) (h k : Half) (r : Sent) → r.check ≡ false → drop h.completed h.sent ≡ r ∷ drop (h.completed + 1) h.sent → Both size depth h k → ShutOf h →
     ShutOf (record (counts_completed h) { fin = r.snapshot; flight = drop 1 h.flight; phase = after_completing r.snapshot h.phase })
@@ -274,7 +270,7 @@ shut-of t x items f = shut-half x (pipe t items) (shuts t items f)
 -- closed is told only behind completed bytes
 last-closed : (f l : Snapshot) (ss : List Snapshot) → Climbs f ss l → l.closed ≡ true → some_of tells_closed f ss ≡ true
 last-closed f l [] g e = subst (λ (s : Snapshot). s.closed ≡ true) (sym g) e
-last-closed f l (s ∷ ss) g e = or-right f.closed (some_of tells_closed s ss) (last-closed s l ss g.1 e)
+last-closed f l (s ∷ ss) g e = or_right f.closed (some_of tells_closed s ss) (last-closed s l ss g.1 e)
 
 closed-over : (size depth : ℕ) (h k : Half) → Both size depth h k → ShutOf h → ClosesBehindAll h
 closed-over size depth h k b s e = let w = b.0 in let f = w.2 in let c = s.closed (last-closed h.fin h.last h.flight f.climbs e) in c.1
@@ -282,7 +278,7 @@ closed-over size depth h k b s e = let w = b.0 in let f = w.2 in let c = s.close
 pub closes-behind-all : (t : Terms) (x : Side) (items : List Item) → IsFeasible t items → ClosesBehindAll (half x (pipe t items))
 closes-behind-all t x items f = closed-over t.size t.depth (half x (pipe t items)) (half (other x) (pipe t items)) (both t x items f) (shut-of t x items f)
 
--- an end that is neither reset nor closing has read no more than it was told
+-- an end that is or_parts reset nor closing has read no more than it was told
 read-by : (s : Snapshot) (rd : ℕ) (phase : Phase) → (s.aborted ≡ true → is_shut phase ≡ true) → (s.aborted ≡ true) ⊎ (rd ≤ s.told) → is_shut phase ≡ false → rd ≤ s.told
 read-by s rd phase f (inl e) g = absurd (true≢false (sym (f e) ∙ g))
 read-by s rd phase f (inr e) g = e

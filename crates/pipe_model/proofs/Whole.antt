@@ -3,6 +3,7 @@ use Rattle.std.proofs.Common.{◌≡◌, ◌∙◌, ℕ, ◌+◌, ◌==◌, ◌<
 use Rattle.std.specs.Prelude.{Some, is_some}
 use Rattle.std.proofs.lemmas.List.{drop-append-le}
 use Rattle.std.proofs.Math.Seq.{drop-append_seam}
+use Rattle.std.proofs.lemmas.Bool.{eq-eqb, or_right}
 use Rattle.smc_num.specs.declared.Side.{Side}
 use Rattle.smc_num.specs.declared.Side.TheVariants.{A, B}
 use Rattle.smc_num.specs.declared.LinkId.{LinkId}
@@ -23,7 +24,7 @@ use Rattle.pipe_model.proofs.Sound.{Both}
 use Rattle.pipe_model.proofs.Items.{lt-or, next-completes}
 use Rattle.pipe_model.proofs.Parts.{BothOf, both, both-after}
 use Rattle.pipe_model.proofs.Facts.{may-take}
-use Rattle.pipe_model.proofs.Shuts.{ShutOf, shut-of, over-shut, and-parts, or-right, finish-shut, close-shut, abort-shut, struck-shut, ended-shut, posting-shut, completing-shut, moving-shut}
+use Rattle.pipe_model.proofs.Shuts.{ShutOf, shut-of, over-shut, and-parts, finish-shut, close-shut, abort-shut, struck-shut, ended-shut, posting-shut, completing-shut, moving-shut}
 use Rattle.pipe_model.proofs.Near.{no-gap}
 use Rattle.pipe_model.proofs.Joins.{Comes, Behind, comes-append, comes-snapshot, comes-check, behind-append, behind-first, behind-rest, climbs-behind, in-flight}
 
@@ -145,9 +146,6 @@ group-whole : (b : Bool) (c : ℕ) (d : Bool) (e : ℕ) (h k : Half) → WholeBo
 group-whole b c d e h k w = (w.0, reshut d e k h (ended_with h.link.group h.phase) (λ _. ended-shut h.link.group h.phase) w.1)
 
 -- completions
-number-same : (a b : ℕ) → a ≡ b → (a == b) ≡ true
-number-same a b e = grind arith
-
 counted-by : (b : Bool) (c : ℕ) (h k : Half) → (h.completed < h.landed) ⊎ (h.landed ≤ h.completed) → h.completed ≤ h.landed → WholeOf b c h k → WholeOf (b || (h.completed == h.landed)) c (counts_completed h) k
 counted-by b c h k (inl l) o w =
     let e : h.landed ≡ max h.landed (h.completed + 1) = omega arith in
@@ -159,7 +157,7 @@ counted-by b c h k (inr l) o w = record { behind = w.behind; comes = by w.comes 
 
     by : (is_shut k.phase ≡ true) ⊎ ((c ≡ k.taken.told) × ((b ≡ true) ⊎ Comes k.taken (to_land h) h.last.told)) → (is_shut k.phase ≡ true) ⊎ ((c ≡ k.taken.told) × (((b || (h.completed == h.landed)) ≡ true) ⊎ Comes k.taken (to_land (counts_completed h)) h.last.told))
     by (inl e) = inl e
-    by (inr e) = inr (e.0, inl (or-right b (h.completed == h.landed) (number-same h.completed h.landed same)))
+    by (inr e) = inr (e.0, inl (or_right b (h.completed == h.landed) (eq-eqb h.completed h.landed same)))
 
 completes-by : (size depth : ℕ) (b b2 : Bool) (c : ℕ) (d : Bool) (e : ℕ) (h k : Half) (r : Sent) (is_check : Bool) → r.check ≡ is_check → drop h.completed h.sent ≡ r ∷ drop (h.completed + 1) h.sent → Both size depth h k → WholeOf b2 c (counts_completed h) k → WholeOf d e k h →
     WholeBoth b2 c d e (if is_check then counts_completed h else record (counts_completed h) { fin = r.snapshot; flight = drop 1 h.flight; phase = after_completing r.snapshot h.phase }) k

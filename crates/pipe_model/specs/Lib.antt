@@ -2,7 +2,6 @@ pub mod Calls
 pub mod Causes
 pub mod Closing
 pub mod Connections
-pub mod Counted
 pub mod Ends
 pub mod Fabric
 pub mod Fallback

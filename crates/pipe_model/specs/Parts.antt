@@ -9,7 +9,7 @@ use Rattle.pipe_model.specs.Snapshot.{is_last}
 use Rattle.pipe_model.specs.Closing.{Phase, cause_of, is_closing}
 use Rattle.pipe_model.specs.Ends.{Half, Sent, is_due, is_due_for_move, to_land, to_complete}
 use Rattle.pipe_model.specs.Calls.{Moves}
-use Rattle.pipe_model.specs.Pipe.{Item, Fate, GroupEnd, Up, Calls, Lands, Completes, Terms, half, pipe}
+use Rattle.pipe_model.specs.Pipe.{Item, Fate, GroupEnd, Up, Calls, Lands, Completes, Terms, Pipe, half, pipe}
 
 -- the side of the end that acts: of a message the one that sent it
 abbrev pub actor : Item → Side
@@ -20,10 +20,13 @@ actor (Calls x call) = x
 actor (Lands x) = x
 actor (Completes x) = x
 
--- whether the way of an end's messages is broken after an item of its own: a message was swallowed, which completes without
--- having landed; a move takes another way
+-- whether the message of an end that is next to complete is swallowed by it: it has not landed
+abbrev pub is_swallowed : Half → Bool
+is_swallowed h = h.completed == h.landed
+
+-- whether the way of an end's messages is broken after an item of its own: a message was swallowed; a move takes another way
 abbrev pub broken_after : Item → Half → Bool → Bool
-broken_after (Completes x) h broken = broken || (h.completed == h.landed)
+broken_after (Completes x) h broken = broken || is_swallowed h
 broken_after (Calls x Moves) h broken = broken && not (is_due_for_move h)
 broken_after _ h broken = broken
 
@@ -31,6 +34,16 @@ broken_after _ h broken = broken
 abbrev pub is_broken : Terms → Side → List Item → Bool
 is_broken t x [] = false
 is_broken t x (item ∷ items) = if same_side x (actor item) then broken_after item (half x (pipe t items)) (is_broken t x items) else is_broken t x items
+
+-- whether an item is a swallow
+abbrev pub swallows : Item → Pipe → Bool
+swallows (Completes x) p = is_swallowed (half x p)
+swallows _ p = false
+
+-- whether one of the messages of a part was swallowed
+abbrev pub has_swallow : Terms → List Item → Bool
+has_swallow t [] = false
+has_swallow t (item ∷ items) = has_swallow t items || swallows item (pipe t items)
 
 -- that an item can come next: a message lands that is under way on a way that isn't broken, and one completes that has not
 abbrev pub CanFollow : Item → Half → Bool → Type 0
@@ -136,6 +149,15 @@ pub record CarriesFew (size accepted : ℕ) (m : Sent) : Type 0 where
   pub within : m.snapshot.told ≤ accepted
   pub check : m.check ≡ true → CarriesNone m
   pub aborted : m.snapshot.aborted ≡ true → CarriesNone m
+
+-- whether one of the messages tells a last snapshot, closed or aborted
+abbrev pub has_last : List Sent → Bool
+has_last [] = false
+has_last (m ∷ ms) = is_last m.snapshot || has_last ms
+
+-- that an end has told its last snapshot
+abbrev pub HasToldLast : Half → Type 0
+HasToldLast h = has_last h.sent ≡ true
 
 -- that once y has taken the last snapshot of x, closed or aborted, no message of x under way to it carries bytes
 abbrev pub EndsWithLast : Half → Half → Type 0

@@ -1,13 +1,13 @@
 -- What the plain program's own types stand for: the calls and answers of the definitions, and a pipe with its terms.
--- A reader learns here that nothing but the form differs.
-use Rattle.std.specs.Prelude.{[]}
+-- A reader learns here that nothing but the form differs, and why no number of an end runs over.
+use Rattle.std.specs.Prelude.{ℕ, ◌+◌, ◌≤◌, []}
 use Rattle.pipe_model.specs.declared.plain.asked.PlainCall.{PlainCall}
 use Rattle.pipe_model.specs.declared.plain.asked.PlainCall.TheVariants.{Write, Read, Finish, Close, Abort, Await, Move}
 use Rattle.pipe_model.specs.declared.plain.asked.PlainTold.{PlainTold}
 use Rattle.pipe_model.specs.declared.plain.asked.PlainTold.TheVariants.{Answer, HandsOut}
 use Rattle.pipe_model.specs.Calls.{Call, Writes, Reads, Finishes, Closes, Aborts, Awaits, Moves, Told, Plain, Hands}
 use Rattle.pipe_model.specs.Ends.{settle}
-use Rattle.pipe_model.specs.Pipe.{Terms, Pipe, Item, pipe, step, apply}
+use Rattle.pipe_model.specs.Pipe.{Terms, Pipe, Item, pipe, step}
 
 -- the call that it stands for
 abbrev pub call_of : PlainCall → Call
@@ -37,10 +37,11 @@ begun t = record { terms = t; ends = pipe t [] }
 abbrev pub after : Item → Run → Run
 after item run = record run { ends = step run.terms item run.ends }
 
--- after one item, before anything is posted
-abbrev pub applied : Item → Run → Run
-applied item run = record run { ends = apply run.terms.size item run.ends }
-
 -- after what is due was posted
 abbrev pub settled : Run → Run
 settled run = record run { ends = record { a = settle run.terms.depth run.ends.a; b = settle run.terms.depth run.ends.b } }
+
+-- the number last used, and how many messages have arrived, against how many were posted; the first number has 16 bits
+pub record IsCounted (posted number arrived : ℕ) : Type 0 where
+  pub numbered : number ≤ posted + 65_536
+  pub posted_first : arrived ≤ posted

@@ -34,9 +34,11 @@ pub use laws::{
 };
 pub use llc_wire::{KeyToken, LlcMessage, NewKey};
 pub use pipe_laws::{
-    an_end_that_is_over_is_shut, closed_is_told_behind_all_bytes, counts_fit, marks_fit,
-    messages_carry_few_bytes, no_bytes_follow_the_last_snapshot, nothing_is_due, reads_back,
-    reads_stay_behind_what_was_told, the_flight_is_what_has_not_completed, the_next_bytes_go_on,
+    an_end_that_is_over_is_shut, closed_is_told_behind_all_bytes, counts_fit,
+    ends_that_are_over_have_told_their_last, marks_fit, messages_carry_few_bytes,
+    no_bytes_follow_the_last_snapshot, nothing_is_due, parts_of_few_snapshots_are_near,
+    parts_without_swallows_are_near, reads_back, reads_stay_behind_what_was_told,
+    the_flight_is_what_has_not_completed, the_next_bytes_go_on,
     the_next_snapshot_is_within_the_distances, the_next_snapshot_may_be_taken,
     the_oldest_snapshot_completes, told_bytes_have_landed, what_shows_no_gap_was_taken,
 };

@@ -1,8 +1,9 @@
 //! What holds of the two ends of a connection, whatever their applications, the links and the other
 //! connections do. Each law is a function with nothing to do, whose contract is the law.
 
-ghost use Rattle.std.specs.Prelude.{◌≡◌, ℕ, ◌+◌, ◌<◌, ◌≤◌, true, false, List, ◌∷◌, length, Some};
+ghost use Rattle.std.specs.Prelude.{◌≡◌, ℕ, ◌+◌, ◌-◌, ◌<◌, ◌≤◌, true, false, List, ◌∷◌, length, Some};
 ghost use Rattle.smc_num.specs.declared.Side.{Side as Peer};
+ghost use Rattle.smc_num.specs.declared.Side.TheVariants.{A, B};
 ghost use Rattle.smc_num.specs.Names.{other, head};
 ghost use Rattle.cdc_wire.specs.declared.CdcMessage.{CdcMessage as Message};
 ghost use Rattle.pipe_model.specs.declared.snapshot.Snapshot.{Snapshot as Shot};
@@ -10,7 +11,7 @@ ghost use Rattle.pipe_model.specs.Snapshot.{Spells, shows_gap, is_near};
 ghost use Rattle.pipe_model.specs.Spelling.{IsWithin, read_snapshot};
 ghost use Rattle.pipe_model.specs.Ends.{Sent, is_over, to_land, to_complete};
 ghost use Rattle.pipe_model.specs.Pipe.{Terms, Item, Lands, half, pipe, is_near_part};
-ghost use Rattle.pipe_model.specs.Parts.{IsFeasible, covered, is_shut, EachOf, IsCounted, IsMarked, IsFlying, IsSettled, MayTake, ClosesBehindAll, ReadsTold, CarriesFew, EndsWithLast, HasAllTold, GoesOn};
+ghost use Rattle.pipe_model.specs.Parts.{IsFeasible, HasToldLast, has_swallow, covered, is_shut, EachOf, IsCounted, IsMarked, IsFlying, IsSettled, MayTake, ClosesBehindAll, ReadsTold, CarriesFew, EndsWithLast, HasAllTold, GoesOn};
 
 /// What an end told, what of it has completed, what its peer took and read, and the window fit
 /// together.
@@ -77,6 +78,26 @@ pub fn no_bytes_follow_the_last_snapshot()
 pub fn an_end_that_is_over_is_shut()
     ensures { (t : Terms) (x : Peer) (items : List Item) → IsFeasible t items
         → is_over (half x (pipe t items)) ≡ true → is_shut (half x (pipe t items)).phase ≡ true }
+{}
+
+/// An end that is over has told its last snapshot, and so has its peer.
+pub fn ends_that_are_over_have_told_their_last()
+    ensures { (t : Terms) (x : Peer) (items : List Item) → IsFeasible t items
+        → is_over (half x (pipe t items)) ≡ true
+        → HasToldLast (half x (pipe t items)) × HasToldLast (half (other x) (pipe t items)) }
+{}
+
+/// A part in which no message was swallowed is near.
+pub fn parts_without_swallows_are_near()
+    ensures { (t : Terms) (items : List Item) → IsFeasible t items → has_swallow t items ≡ false
+        → is_near_part t items ≡ true }
+{}
+
+/// A part in which neither end has posted 32,768 snapshots is near.
+pub fn parts_of_few_snapshots_are_near()
+    ensures { (t : Terms) (items : List Item) → IsFeasible t items
+        → (half A (pipe t items)).number < (t.number - 1) + 32_768
+        → (half B (pipe t items)).number < (t.number - 1) + 32_768 → is_near_part t items ≡ true }
 {}
 
 /// A validation message that is near and shows no gap names a number that its taker has taken.

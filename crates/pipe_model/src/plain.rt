@@ -1,9 +1,11 @@
 //! A plain program of the private pipe of a connection: slow functions, each of which gives what one
 //! definition of `specs/` says.
 //!
-//! It is for tests and for checkers of printed histories, which ask what a call must be told and what
-//! an end posts: a [`PlainPipe`] is fed one item of a connection's part after another. It keeps all
-//! bytes that an end accepted and all messages that it posted, and so is no manager.
+//! It is for tests and for checkers of printed histories. A [`PlainPipe`] is fed one item of a
+//! connection's part after another: each of its functions does the item and posts what becomes due
+//! with it, [`PlainPipe::call`] gives what the call must be told, and [`PlainEnd::sent_since`] what
+//! an end has posted. It keeps all bytes that an end accepted and all messages that it posted, and
+//! so is no manager.
 mod answers;
 mod asked;
 mod calls;
@@ -13,6 +15,8 @@ mod links;
 mod lists;
 mod news;
 mod pipe;
+#[cfg(test)]
+mod tests;
 
 pub use asked::{PlainCall, PlainTold};
 pub use end::PlainEnd;

@@ -109,6 +109,7 @@ fn cut_and_reported_links_stop(rt: HostRuntime) -> Result<(), Fail> {
     assert_eq!(rt; wire.swallow(), None);
     assert_eq!(rt; wire.complete(), Some(write()));
     assert_eq!(rt; wire.swallow(), Some(told()));
+    assert_eq!(rt; wire.room(), 4);
     wire.post(told());
     assert!(rt; wire.report(Side::A));
     assert!(rt; !wire.report(Side::A));

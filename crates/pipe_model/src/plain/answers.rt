@@ -7,7 +7,7 @@ ghost use Rattle.pipe_model.specs.Plain.{call_of, told_of};
 use crate::plain::asked::{PlainCall, PlainTold};
 use crate::plain::closing::{abort_reply, cause, close_reply, closing, finish_reply};
 use crate::plain::end::PlainEnd;
-use crate::plain::lists::{behind, front, none};
+use crate::plain::lists::{behind, front};
 use crate::reply::{Reply, ResetCause};
 use std::alloc::{AllocError, Global};
 
@@ -19,7 +19,7 @@ impl PlainEnd {
         let window = self.window(size);
         if self.is_ended() {
             Reply::Ended
-        } else if none(bytes) {
+        } else if bytes.is_empty() {
             Reply::Wrote(0)
         } else if window == 0 {
             Reply::Full
@@ -38,7 +38,7 @@ impl PlainEnd {
             Ok(PlainTold::HandsOut(Vec::new(alloc)))
         } else if self.unread() > 0 {
             let count = (n as u64).min(self.unread());
-            let bytes = front(behind(peer, self.rd), count);
+            let bytes = front(behind(peer, self.rd as usize), count);
             Ok(PlainTold::HandsOut(Vec::from_slice(alloc, bytes)?))
         } else if self.taken.done || self.taken.closed {
             Ok(PlainTold::Answer(Reply::End))

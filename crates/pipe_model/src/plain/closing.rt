@@ -11,7 +11,9 @@ pub(super) fn cause(phase: Phase) -> Option<ResetCause>
     ensures { result ≡ cause_of phase }
 {
     match phase {
-        Phase::Resetting(cause) | Phase::AbortPosted(cause) | Phase::AbortDone(cause) => Some(cause),
+        Phase::Resetting(cause) | Phase::AbortPosted(cause) | Phase::AbortDone(cause) => Some(
+            cause,
+        ),
         Phase::GroupGone(group) => Some(ResetCause::NoLiveLink { group }),
         _ => None,
     }
@@ -21,7 +23,10 @@ pub(super) fn cause(phase: Phase) -> Option<ResetCause>
 pub(super) fn closing(phase: Phase) -> bool
     ensures { result ≡ is_closing phase }
 {
-    matches!(phase, Phase::Closing | Phase::ClosePosted | Phase::CloseDone)
+    matches!(
+        phase,
+        Phase::Closing | Phase::ClosePosted | Phase::CloseDone
+    )
 }
 
 /// Whether finish was called and nothing since.

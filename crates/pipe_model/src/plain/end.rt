@@ -1,11 +1,12 @@
 //! One end of a connection.
-ghost use Rattle.std.specs.Prelude.{◌≡◌, ◌<◌, ◌^◌, ◌+◌, OnOk};
+ghost use Rattle.std.specs.Prelude.{◌≡◌, ◌<◌, ◌^◌, ◌+◌, OnOk, drop};
 ghost use Rattle.pipe_model.specs.Snapshot.{first_snapshot, tells_same, is_last};
-ghost use Rattle.pipe_model.specs.Ends.{Half, fresh, window, unread, is_over, present, is_due, batch, settle};
+ghost use Rattle.pipe_model.specs.Ends.{fresh, window, unread, is_over, present, is_due, batch, settle};
 
 use crate::closing::Phase;
 use crate::plain::closing::{cause, closing, group_gone, on_posting};
 use crate::plain::links::is_live;
+use crate::plain::lists::behind;
 use crate::sent::Sent;
 use crate::snapshot::Snapshot;
 use smc_num::LinkId;
@@ -44,14 +45,27 @@ pub struct PlainEnd {
 impl Model for PlainEnd {
     ghost use Rattle.std.specs.Prelude.{length};
     ghost use Rattle.pipe_model.specs.Ends.{Half};
-    ghost use Rattle.pipe_model.specs.Counted.{IsCounted};
+    ghost use Rattle.pipe_model.specs.Plain.{IsCounted};
 
     ghost Value = { Half };
 
     ghost view = { λ e. record {
-        up = e.up; link = e.link; live = e.live.items; stands = e.stands; out = e.out.items; rd = e.rd;
-        taken = e.taken; fin = e.fin; last = e.last; number = e.number; flight = e.flight.items;
-        phase = e.phase; finished = e.finished; sent = e.sent.items; landed = e.landed; completed = e.completed
+      up = e.up;
+      link = e.link;
+      live = e.live.items;
+      stands = e.stands;
+      out = e.out.items;
+      rd = e.rd;
+      taken = e.taken;
+      fin = e.fin;
+      last = e.last;
+      number = e.number;
+      flight = e.flight.items;
+      phase = e.phase;
+      finished = e.finished;
+      sent = e.sent.items;
+      landed = e.landed;
+      completed = e.completed;
     } };
 
     ghost invariant = { λ e. IsCounted (length e.sent.items) e.number e.landed };
@@ -130,6 +144,13 @@ impl PlainEnd {
         self.sent.as_slice()
     }
 
+    /// The messages that it posted after the first `count`.
+    pub fn sent_since(&self, count: usize) -> &[Sent]
+        ensures { result.now ≡ drop count self.now.sent }
+    {
+        behind(&self.sent, count)
+    }
+
     /// How many bytes more it may accept, with elements of `size` bytes.
     pub fn window(&self, size: u32) -> u64
         ensures { result ≡ window size self.now }
@@ -176,8 +197,7 @@ impl PlainEnd {
     {
         (self.up && !group_gone(self.phase))
             && (is_live(self.link, &self.live)
-                && (self.flight.len() < depth as usize
-                    && !same_told(self.present(), self.last)))
+                && (self.flight.len() < depth as usize && !same_told(self.present(), self.last)))
     }
 
     /// The message that it posts when it is due.

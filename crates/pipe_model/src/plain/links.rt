@@ -1,5 +1,5 @@
 //! The live links of an end's group, lowest slot first.
-ghost use Rattle.std.specs.Prelude.{◌≡◌, ◌++◌, ◌∷◌, OnOk, length, take, drop, filter, not, if◌then◌else◌, ◌≤◌};
+ghost use Rattle.std.specs.Prelude.{◌≡◌, ◌≤◌, OnOk, length, filter, not};
 ghost use Rattle.std.specs.List.{insert};
 ghost use Rattle.smc_num.specs.Names.{same_link, has_link};
 ghost use Rattle.pipe_model.specs.Ends.{with_link};
@@ -44,8 +44,6 @@ pub(super) fn put_in(link: LinkId, live: &mut Vec<LinkId>) -> Result<(), AllocEr
     ensures { OnOk result (live.new.items ≡ with_link link live.old.items) }
 {
     let at = place(link, live);
-    match live.insert(at, link) {
-        Ok(()) => Ok(()),
-        Err(_) => Err(AllocError),
-    }
+    live.insert(at, link)?;
+    Ok(())
 }

@@ -1,19 +1,8 @@
 //! Parts of lists, cut off where the list ends.
 ghost use Rattle.std.specs.Prelude.{◌≡◌, ◌<◌, ◌↔◌, IsSome, take, drop, length};
 ghost use Rattle.smc_num.specs.Names.{head};
-ghost use Rattle.pipe_model.specs.Words.{is_nil};
 
 use crate::sent::Sent;
-
-/// Whether there are no bytes.
-pub(super) fn none(bytes: &[u8]) -> bool
-    ensures { result ≡ is_nil bytes.now }
-{
-    match bytes {
-        [] => true,
-        _ => false,
-    }
-}
 
 /// At most the first `count` bytes.
 pub(super) fn front(bytes: &[u8], count: u64) -> &[u8]
@@ -26,12 +15,12 @@ pub(super) fn front(bytes: &[u8], count: u64) -> &[u8]
     }
 }
 
-/// The bytes behind the first `count`.
-pub(super) fn behind(bytes: &[u8], count: u64) -> &[u8]
-    ensures { result.now ≡ drop count bytes.now }
+/// The items behind the first `count`.
+pub(super) fn behind<T>(items: &[T], count: usize) -> &[T]
+    ensures { result.now ≡ drop count items.now }
 {
-    if count < bytes.len() as u64 {
-        &bytes[count as usize..]
+    if count < items.len() {
+        &items[count..]
     } else {
         &[]
     }

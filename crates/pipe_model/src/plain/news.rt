@@ -117,13 +117,15 @@ impl PlainEnd {
     pub fn take(&mut self, message: Option<Sent>)
         ensures { self.new ≡ takes message self.old }
     {
-        if let Some(m) = message {
-            if self.is_over() {
-            } else if m.check {
-                self.validate(m.snapshot.number);
-            } else {
-                self.take_snapshot(m.snapshot);
+        match message {
+            Some(m) if !self.is_over() => {
+                if m.check {
+                    self.validate(m.snapshot.number);
+                } else {
+                    self.take_snapshot(m.snapshot);
+                }
             }
+            _ => {}
         }
     }
 

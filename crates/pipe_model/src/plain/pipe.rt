@@ -1,13 +1,12 @@
 //! The pipe of one connection, fed item by item.
-ghost use Rattle.std.specs.Prelude.{◌≡◌, ◌<◌, ◌↔◌, [], IfOk, OnOk, IsSome, length};
+ghost use Rattle.std.specs.Prelude.{◌≡◌, ◌<◌, IfOk, OnOk, length};
 ghost use Rattle.smc_num.specs.Names.{head};
 ghost use Rattle.pipe_model.specs.Ends.{to_land, lands, takes};
 ghost use Rattle.pipe_model.specs.Pipe.{Fate, GroupEnd, Up, Calls, Lands, Completes, half, told};
-ghost use Rattle.pipe_model.specs.Plain.{Run, begun, after, applied, settled, call_of, told_of};
+ghost use Rattle.pipe_model.specs.Plain.{begun, after, settled, call_of, told_of};
 
 use crate::plain::asked::{PlainCall, PlainTold};
 use crate::plain::end::PlainEnd;
-use crate::sent::Sent;
 use smc_num::{LinkId, LinkPhase, Side};
 use std::alloc::{AllocError, Global};
 use std::marker::Model;
@@ -15,8 +14,8 @@ use std::marker::Model;
 /// The two ends of a connection and what it is made with. Contracts see the terms and the pipe of the
 /// definitions.
 ///
-/// Each item of a part is one call, which posts what becomes due with it at either end. Want of
-/// memory leaves a pipe that stands for nothing.
+/// Each item of a part is one call here, which posts what becomes due with it at either end. After
+/// want of memory the pipe is of no more use.
 #[derive(Drop)]
 pub struct PlainPipe {
     size: u32,
@@ -32,8 +31,8 @@ impl Model for PlainPipe {
     ghost Value = { Run };
 
     ghost view = { λ p. record {
-        terms = record { size = p.size; depth = p.depth; number = p.number };
-        ends = record { a = p.a; b = p.b }
+      terms = record { size = p.size; depth = p.depth; number = p.number };
+      ends = record { a = p.a; b = p.b };
     } };
 }
 
@@ -126,7 +125,8 @@ impl PlainPipe {
         Ok(answer)
     }
 
-    /// The next message of the end at a side lands at its peer.
+    /// The next message of the end at a side lands at its peer. There is one where its
+    /// [`PlainEnd::next_to_land`] gives it.
     pub fn lands(&mut self, side: Side) -> Result<(), AllocError>
         requires { (half side self.old.ends).landed < length (half side self.old.ends).sent }
         ensures { OnOk result (self.new ≡ after (Lands side) self.old) }

@@ -1,4 +1,4 @@
-use Rattle.std.proofs.Common.{rules, not, filter}
+use Rattle.std.proofs.Common.{rules, not}
 use Rattle.std.proofs.lemmas.Fn.{filter_same}
 use Rattle.smc_num.specs.Names.{same_link}
 use Rattle.pipe_model.proofs.plain.links.take_out.Goals as goal

@@ -1,0 +1,4 @@
+pub mod Holds
+pub mod Slots
+pub mod Tables
+pub mod Views
