@@ -1,5 +1,5 @@
 -- Messages that land and complete: what is kept after them.
-use Rattle.std.proofs.Common.{◌≡◌, ◌∙◌, ℕ, ◌+◌, ◌-◌, ◌%◌, ◌<◌, ◌≤◌, ◌==◌, ◌⊎◌, inl, inr, Bool, true, false, not, ◌&&◌, cond, nat_lt, List, [], ◌∷◌, ◌++◌, length, drop, map, Some, None, refl, sym, ap, ap₂, subst, arith, true≢false, ⊎_elim}
+use Rattle.std.proofs.Common.{◌≡◌, ◌∙◌, ℕ, ◌+◌, ◌-◌, ◌%◌, ◌<◌, ◌≤◌, Bool, true, false, ◌&&◌, cond, nat_lt, List, [], ◌∷◌, length, drop, Some, refl, sym, ap, ap₂, subst, arith, true≢false, ⊎_elim}
 use Rattle.std.proofs.lemmas.List.{drop-drop, length-drop}
 use Rattle.smc_num.specs.Numbers.{wire_number, is_past, cursor_of}
 use Rattle.std.specs.Prelude.{Option, is_some, unwrap_or}
@@ -13,15 +13,13 @@ use Rattle.cdc_ring.proofs.Flying.{a_ring_is_sound, the_oldest_posting_goes, the
 use Rattle.cdc_ring.proofs.Rising.{last-below}
 use Rattle.pipe_model.specs.declared.snapshot.Snapshot.{Snapshot}
 use Rattle.pipe_model.specs.declared.sent.Sent.{Sent}
-use Rattle.pipe_model.specs.declared.closing.Phase.{Phase}
 use Rattle.pipe_model.specs.declared.reply.ResetCause.TheVariants.{PeerAbort, Gap}
 use Rattle.pipe_model.specs.Snapshot.{spelled, validation, is_validation, shows_gap}
-use Rattle.pipe_model.specs.Closing.{struck, after_completing}
+use Rattle.pipe_model.specs.Closing.{after_completing}
 use Rattle.pipe_model.specs.Ends.{fresh as fresh_half}
 use Rattle.pipe_model.specs.Ends.{Half, is_over, strikes, takes, takes_snapshot, validates, counts_completed, completes}
 use Rattle.pipe_model.specs.Parts.{is_shut, MayTake}
 use Rattle.conn_end.specs.Kept.{Kept, Course, at_course, ring_of, tolds, IsWhole}
-use Rattle.conn_end.specs.Batches.{message_of}
 use Rattle.conn_end.specs.Arrivals.{IsSpelling, Lands, Completes}
 use Rattle.conn_end.proofs.Ends.{Stands, came, stands_there, after, whole_phase, phase_only}
 use Rattle.conn_end.proofs.Phases.{struck_shut, open_before_strike, open_before_completing}

@@ -1,13 +1,12 @@
 -- For which plain ends what is kept stands, after its calls and news.
-use Rattle.std.proofs.Common.{◌≡◌, ◌∙◌, ℕ, ◌+◌, ◌≤◌, Bool, true, false, List, length, drop, refl, sym, ap, subst, arith}
-use Rattle.cdc_ring.specs.Kept.{Kept as KeptRing, StandsFor as RingStandsFor}
-use Rattle.pipe_model.specs.declared.closing.Phase.{Phase}
+use Rattle.std.proofs.Common.{◌≡◌, ◌∙◌, ℕ, ◌≤◌, Bool, false, List, length, drop, refl, sym, ap, subst}
+use Rattle.cdc_ring.specs.Kept.{Kept as KeptRing}
 use Rattle.pipe_model.specs.Closing.{cause_of}
 use Rattle.pipe_model.specs.Ends.{Half}
 use Rattle.pipe_model.specs.Calls.{Call, half_told}
 use Rattle.pipe_model.specs.Parts.{is_shut}
 use Rattle.conn_end.specs.declared.answers.EndReply.{EndReply}
-use Rattle.conn_end.specs.Kept.{Course, at_course, ring_of, IsWhole, Agrees}
+use Rattle.conn_end.specs.Kept.{Course, at_course, IsWhole, Agrees}
 use Rattle.conn_end.specs.Told.{told_of, IsPlaced, Answers}
 
 -- what is kept stands for an end

@@ -1,5 +1,5 @@
 -- That what is kept stands for some plain end, and for each that differs only in what its owner knows; what an await is told.
-use Rattle.std.proofs.Common.{◌≡◌, ◌∙◌, ℕ, ◌+◌, Bool, true, false, cond, zero, suc, List, [], ◌∷◌, ◌++◌, length, drop, refl, sym, ap, arith, replicate, true≢false}
+use Rattle.std.proofs.Common.{◌≡◌, ◌∙◌, ℕ, ◌-◌, ◌%◌, ◌≤◌, Bool, true, false, cond, zero, suc, List, ◌++◌, drop, refl, sym, ap, arith, replicate, true≢false}
 use Rattle.std.specs.Prelude.{Option, Some, None}
 use Rattle.std.proofs.lemmas.List.{length-append, length-replicate}
 use Rattle.smc_num.specs.declared.LinkId.{LinkId}
@@ -14,10 +14,12 @@ use Rattle.pipe_model.specs.declared.snapshot.Snapshot.{Snapshot}
 use Rattle.pipe_model.specs.declared.sent.Sent.{Sent}
 use Rattle.pipe_model.specs.Snapshot.{spelled, validation}
 use Rattle.pipe_model.specs.Parts.{MayTake}
+use Rattle.cdc_ring.specs.declared.Piece.{Piece}
+use Rattle.conn_end.specs.Batches.{IsKeptPiece}
 use Rattle.conn_end.specs.Arrivals.{IsSpelling, MayLand, MayComplete}
 use Rattle.pipe_model.specs.Closing.{cause_of}
 use Rattle.pipe_model.specs.Ends.{Half, fresh, meets_fate}
-use Rattle.pipe_model.specs.Calls.{Told, Plain, Hands, Reads, Awaits, is_waiting, half_told}
+use Rattle.pipe_model.specs.Calls.{Told, Plain, Reads, Awaits, is_waiting, half_told}
 use Rattle.conn_end.specs.declared.answers.EndReply.{EndReply}
 use Rattle.conn_end.specs.declared.answers.EndReply.TheVariants.{Wrote, Full, Take, Empty, End, Ended, Done, Reset}
 use Rattle.conn_end.specs.Kept.{Kept, IsKept, StandsFor, at_course}
@@ -108,5 +110,18 @@ may_complete_oldest k token m s w e first = record {
     stands = stands_for_zeros k w;
     spelling = spelled_by k.size token m s e;
     oldest = λ fresh. first;
+  };
+}
+
+-- the bytes behind the completed ones are kept
+pub keeps_first : (k : Kept) (piece : Piece) → IsKept k → piece.place ≡ k.course.fin.told % k.size → piece.len ≤ k.accepted - k.course.fin.told → IsKeptPiece k piece
+keeps_first k piece w place len = record {
+  end = with_zeros k;
+  first = k.course.fin.told;
+  holds = record {
+    stands = stands_for_zeros k w;
+    place = place;
+    from = omega arith;
+    to = omega (arith, w.counted, len, (stands_for_zeros k w).accepted);
   };
 }

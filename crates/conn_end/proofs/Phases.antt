@@ -1,20 +1,18 @@
 -- What the calls and news leave of a phase: an end that is reset or closing stays so, and which phases follow.
-use Rattle.std.proofs.Common.{◌≡◌, ◌∙◌, ℕ, Bool, true, false, ◌||◌, List, [], Some, None, refl, sym, ap, true≢false}
-use Rattle.std.specs.Prelude.{Option, if◌then◌else◌, is_some}
+use Rattle.std.proofs.Common.{◌≡◌, ◌∙◌, ℕ, Bool, true, false, List, [], Some, None, refl, sym, ap, true≢false}
+use Rattle.std.specs.Prelude.{Option, if◌then◌else◌}
 use Rattle.pipe_model.specs.declared.snapshot.Snapshot.{Snapshot}
 use Rattle.pipe_model.specs.declared.closing.Phase.{Phase}
 use Rattle.pipe_model.specs.declared.closing.Phase.TheVariants.{Open, Finished, Closing, ClosePosted, CloseDone, Resetting, AbortPosted, AbortDone, GroupGone}
 use Rattle.pipe_model.specs.declared.reply.ResetCause.{ResetCause}
-use Rattle.pipe_model.specs.declared.reply.ResetCause.TheVariants.{PeerAbort}
-use Rattle.pipe_model.specs.declared.reply.Reply.{Reply}
-use Rattle.pipe_model.specs.Closing.{cause_of, after_finish, after_close, after_abort, struck, after_posting, after_completing, after_moving}
+use Rattle.pipe_model.specs.Closing.{after_abort, struck, after_posting, after_completing}
 use Rattle.pipe_model.specs.Parts.{is_shut}
-use Rattle.pipe_model.specs.Ends.{Half, takes_snapshot}
-use Rattle.pipe_model.specs.Calls.{Told, Plain, Hands, Finishes, Closes, Aborts, half_told, finishes, closes, aborts}
+use Rattle.pipe_model.specs.Ends.{Half}
+use Rattle.pipe_model.specs.Calls.{Told, Plain, Hands, Finishes, Closes, Aborts, half_told, finishes, closes}
 use Rattle.conn_end.specs.declared.answers.EndReply.{EndReply}
 use Rattle.conn_end.specs.declared.answers.EndReply.TheVariants.{Wrote, Full, Take, Empty, End, Ended, Done, Reset}
 use Rattle.conn_end.specs.declared.closing.Step.{Step}
-use Rattle.conn_end.specs.declared.closing.Step.TheVariants.{Finish, Close, Abort, Strike}
+use Rattle.conn_end.specs.declared.closing.Step.TheVariants.{Finish, Close, Abort}
 use Rattle.conn_end.specs.Told.{told_of, IsPlaced}
 use Rattle.conn_end.specs.Table.{told_step}
 

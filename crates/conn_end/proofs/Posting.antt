@@ -1,20 +1,17 @@
 -- What is due, and what is kept once it was posted.
-use Rattle.std.proofs.Common.{◌≡◌, ◌∙◌, ℕ, ◌+◌, ◌-◌, ◌%◌, ◌<◌, ◌≤◌, ◌==◌, Bool, true, false, not, ◌&&◌, cond, nat_lt, List, [], ◌∷◌, ◌++◌, length, drop, map, min, Some, None, refl, sym, ap, ap₂, subst, arith, true≢false}
-use Rattle.std.specs.Prelude.{is_some, Option}
-use Rattle.std.proofs.lemmas.List.{length-append, length-map, map-append}
-use Rattle.smc_num.specs.Names.{has_link}
+use Rattle.std.proofs.Common.{◌≡◌, ◌∙◌, ℕ, ◌+◌, ◌-◌, ◌%◌, ◌<◌, ◌≤◌, ◌==◌, Bool, true, false, cond, List, [], ◌∷◌, ◌++◌, length, take, drop, min, refl, sym, ap, ap₂, subst, arith}
+use Rattle.std.specs.Prelude.{is_some}
+use Rattle.std.proofs.lemmas.List.{drop-drop, length-append, length-map, map-append}
 use Rattle.cdc_ring.specs.declared.Piece.{Piece}
-use Rattle.cdc_ring.specs.Rings.{Ring, last_from, last_posted, accepted, unposted, front_piece, back_piece, posts}
+use Rattle.cdc_ring.specs.Rings.{Ring, held_at, last_from, last_posted, accepted, unposted, front_piece, back_piece, posts}
 use Rattle.cdc_ring.specs.Flights.{Climbs, rising}
-use Rattle.cdc_ring.specs.Kept.{Kept as KeptRing, StandsFor as RingStandsFor}
+use Rattle.cdc_ring.specs.Kept.{Kept as KeptRing, StandsFor as RingStandsFor, IsHeld}
 use Rattle.cdc_ring.proofs.Flying.{a_ring_is_sound, the_last_snapshot_tells_the_last_posted_byte, a_snapshot_more_is_a_posting, a_snapshot_without_bytes_is_no_posting, postings_are_no_more_than_snapshots}
 use Rattle.pipe_model.specs.declared.snapshot.Snapshot.{Snapshot}
-use Rattle.pipe_model.specs.declared.closing.Phase.{Phase}
-use Rattle.pipe_model.specs.Snapshot.{tells_same}
-use Rattle.pipe_model.specs.Closing.{cause_of, is_group_gone, after_posting}
-use Rattle.pipe_model.specs.Ends.{Half, present, batch, is_due, posts_batch, settle}
-use Rattle.conn_end.specs.Kept.{Course, at_course, ring_of, tolds, IsWhole}
-use Rattle.conn_end.specs.Batches.{front_of, back_of, no_piece, may_post, pieces_for, posts_for}
+use Rattle.pipe_model.specs.Closing.{cause_of, after_posting}
+use Rattle.pipe_model.specs.Ends.{Half, present, batch, posts_batch}
+use Rattle.conn_end.specs.Kept.{Kept, Course, at_course, ring_of, tolds, IsWhole}
+use Rattle.conn_end.specs.Batches.{HoldsPiece, IsKeptPiece, front_of, back_of, no_piece, pieces_for, posts_for}
 use Rattle.conn_end.proofs.Ends.{Stands, came, stands_there}
 use Rattle.conn_end.proofs.Arriving.{last_within}
 use Rattle.conn_end.proofs.Phases.{open_before_posting}
@@ -118,3 +115,27 @@ pieces_are size ring count c h stands = by_reset (is_some (cause_of h.phase))
         let rest : 0 ≡ (t - t) - min (t - t) (size - t % size) = omega arith in
         λ i. (record { place = t % size; len = none i }, record { place = 0; len = rest i })
     by_reset false = ap₂ (λ a l. (front_of size l a, back_of size l a)) (stands.whole.counted ∙ stands.accepted) last
+
+-- the ring holds the bytes of a piece that the end keeps
+pub piece_held : (k : Kept) (piece : Piece) → IsKeptPiece k piece → IsHeld piece k.ring
+piece_held k piece p =
+    let s = p.holds.stands in
+    record {
+      ring = ring_of k.size k.ring.bytes k.course;
+      stands = s.whole.ring;
+      from = p.first;
+      spelled = p.holds.place;
+      low = omega (arith, p.holds.from, ap (λ (t : Snapshot). t.told) s.fin);
+      high = omega (arith, p.holds.to, s.whole.counted, s.accepted);
+    }
+
+-- and they are those that the end accepted
+pub piece_is : (k : Kept) (piece : Piece) (h : Half) (first : ℕ) (bytes : List ℕ) → HoldsPiece k piece h first → ((r : Ring) (from : ℕ) → RingStandsFor k.ring r → piece.place ≡ from % r.size → r.completed ≤ from → from + piece.len ≤ accepted r → bytes ≡ held_at from piece.len r) → bytes ≡ take piece.len (drop first h.out)
+piece_is k piece h first bytes p held =
+    let s = p.stands in
+    let low : k.course.fin.told ≤ first = omega (arith, p.from, ap (λ (t : Snapshot). t.told) s.fin) in
+    let n : ℕ = first - k.course.fin.told in
+    let place : k.course.fin.told + n ≡ first = omega (arith, low) in
+    held (ring_of k.size k.ring.bytes k.course) first s.whole.ring p.place low (omega (arith, p.to, s.whole.counted, s.accepted))
+    ∙ ap (λ bs. take piece.len (drop n bs)) (s.bytes ∙ ap (λ (t : Snapshot). drop t.told h.out) (sym s.fin))
+    ∙ ap (take piece.len) (drop-drop n k.course.fin.told h.out ∙ ap (λ m. drop m h.out) place)

@@ -1,18 +1,17 @@
 -- A write: how many bytes fit, and what is kept of them.
-use Rattle.std.proofs.Common.{◌≡◌, ◌∙◌, ℕ, ◌+◌, ◌-◌, ◌≤◌, ◌==◌, Bool, true, false, ◌||◌, cond, List, [], ◌∷◌, ◌++◌, length, drop, take, min, Some, None, refl, sym, ap, ap₂, subst, arith, length-take, true≢false}
+use Rattle.std.proofs.Common.{◌≡◌, ◌∙◌, ℕ, ◌+◌, ◌-◌, ◌≤◌, ◌==◌, Bool, true, false, ◌||◌, cond, List, [], ◌∷◌, ◌++◌, length, drop, take, min, None, refl, sym, ap, ap₂, subst, arith, length-take, true≢false}
 use Rattle.std.specs.Prelude.{is_some}
 use Rattle.std.proofs.lemmas.Bool.{eqb-true, eqb-false, ne_eqb}
 use Rattle.std.proofs.lemmas.List.{length-append, drop-append-le}
-use Rattle.cdc_ring.specs.Rings.{Ring, window as ring_window, accepts as ring_accepts}
+use Rattle.cdc_ring.specs.Rings.{window as ring_window, accepts as ring_accepts}
 use Rattle.cdc_ring.specs.Kept.{Kept as KeptRing, StandsFor as RingStandsFor}
 use Rattle.pipe_model.specs.declared.reply.Reply.TheVariants.{Wrote as SaysWrote, Full as SaysFull, Ended as SaysEnded}
 use Rattle.pipe_model.specs.declared.snapshot.Snapshot.{Snapshot}
 use Rattle.pipe_model.specs.Words.{is_nil}
 use Rattle.pipe_model.specs.Closing.{cause_of}
 use Rattle.pipe_model.specs.Ends.{Half, window}
-use Rattle.pipe_model.specs.Calls.{Writes, Told, Plain, is_ended, accepts, write_told, half_told}
+use Rattle.pipe_model.specs.Calls.{Writes, Plain, is_ended, accepts, half_told}
 use Rattle.conn_end.specs.Kept.{Course, at_course, ring_of, IsWhole}
-use Rattle.conn_end.specs.declared.answers.EndReply.{EndReply}
 use Rattle.conn_end.specs.declared.answers.EndReply.TheVariants.{Wrote, Full, Ended}
 use Rattle.conn_end.specs.Told.{told_of, wrote_told, IsPlaced, Answers}
 use Rattle.conn_end.proofs.Ends.{Stands, came, stands_there}

@@ -1,6 +1,6 @@
 -- What an end posts.
 -- A reader learns here which messages a batch has, and where in the peer's element its bytes go.
-use Rattle.std.specs.Prelude.{◌≡◌, ℕ, ◌-◌, ◌%◌, ◌<◌, min, length, ◌&&◌, Bool, if◌then◌else◌, Option, Some, None}
+use Rattle.std.specs.Prelude.{◌≡◌, ℕ, ◌+◌, ◌-◌, ◌%◌, ◌<◌, ◌≤◌, min, length, ◌&&◌, Bool, if◌then◌else◌, Option, Some, None}
 use Rattle.smc_num.specs.Names.{has_link}
 use Rattle.cdc_wire.specs.declared.CdcMessage.{CdcMessage}
 use Rattle.cdc_ring.specs.declared.Piece.{Piece}
@@ -10,7 +10,7 @@ use Rattle.pipe_model.specs.Snapshot.{spelled, validation}
 use Rattle.pipe_model.specs.declared.sent.Sent.{Sent}
 use Rattle.pipe_model.specs.Ends.{Half, present, is_due, batch, check}
 use Rattle.conn_end.specs.declared.answers.Batch.{Batch}
-use Rattle.conn_end.specs.Kept.{Kept}
+use Rattle.conn_end.specs.Kept.{Kept, StandsFor}
 
 -- the message of an end, spelled under a token
 abbrev pub message_of : ℕ → ℕ → Sent → CdcMessage
@@ -62,3 +62,16 @@ pieces_for size s ring = if s.aborted then (record { place = s.told % size; len 
 -- the ring behind them
 abbrev pub posts_for : Snapshot → Ring → Ring
 posts_for s ring = if s.aborted then ring else posts ring
+
+-- that an end keeps the bytes of a piece, the first of which has a place in the stream
+pub record HoldsPiece (k : Kept) (piece : Piece) (h : Half) (first : ℕ) : Type 0 where
+  pub stands : StandsFor k h
+  pub place : piece.place ≡ first % k.size
+  pub from : h.fin.told ≤ first
+  pub to : first + piece.len ≤ length h.out
+
+-- that there is such a place
+pub record IsKeptPiece (k : Kept) (piece : Piece) : Type 0 where
+  pub end : Half
+  pub first : ℕ
+  pub holds : HoldsPiece k piece end first

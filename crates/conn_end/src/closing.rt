@@ -1,5 +1,5 @@
 //! How an end closes (RFC 7609, section 4.8): the table of its phases, and what a phase says.
-ghost use Rattle.std.specs.Prelude.{◌≡◌, ◌<◌, ◌+◌, ◌*◌, ℕ, List};
+ghost use Rattle.std.specs.Prelude.{◌≡◌, ◌<◌, ℕ, List};
 ghost use Rattle.pipe_model.specs.Calls.{Plain};
 ghost use Rattle.pipe_model.specs.Closing.{cause_of as cause_at, is_closing, is_finished, is_group_gone, after_posting, after_completing, after_moving, ended_with};
 ghost use Rattle.conn_end.specs.Table.{state_of as state_at, place_of, cause_in, after_action, told_by, after_step, step_told};

@@ -1,7 +1,7 @@
 //! How far an end has come, without the bytes that it keeps.
 //!
 //! Each contract speaks of any end that has come so far.
-ghost use Rattle.std.specs.Prelude.{◌≡◌, ◌<◌, ◌≤◌, ◌+◌, ◌^◌, ◌&&◌, if◌then◌else◌, ◌++◌, ◌∷◌, [], ℕ, true, false, not, nat_lt, List, length, drop, Some, None, IfOk, IsTrue};
+ghost use Rattle.std.specs.Prelude.{◌≡◌, ◌<◌, ◌≤◌, ◌^◌, ◌&&◌, if◌then◌else◌, ◌++◌, ◌∷◌, [], ℕ, false, not, nat_lt, List, length, drop, IfOk};
 ghost use Rattle.pipe_model.specs.Snapshot.{tells_same};
 ghost use Rattle.pipe_model.specs.Closing.{cause_of as cause_in, is_group_gone, ended_with, after_posting, after_completing, after_moving};
 ghost use Rattle.smc_num.specs.Names.{head};

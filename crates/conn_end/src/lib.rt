@@ -7,7 +7,7 @@
 //! are plain, so a message that comes is handed in beside the plain snapshot that it spells.
 #![tactic(auto)]
 
-ghost use Rattle.std.specs.Prelude.{◌≡◌, ◌<◌, ◌≤◌, ◌^◌, ◌&&◌, ◌||◌, ℕ, true, false, not, List, Some, length, IfOk};
+ghost use Rattle.std.specs.Prelude.{◌≡◌, ◌<◌, ◌≤◌, ◌^◌, ◌&&◌, ◌||◌, ℕ, true, false, not, Some, length, take, drop, ◌++◌, IfOk};
 ghost use Rattle.pipe_model.specs.Words.{is_nil};
 ghost use Rattle.pipe_model.specs.Snapshot.{is_last};
 ghost use Rattle.cdc_ring.specs.Rings.{Ring};
@@ -18,7 +18,7 @@ ghost use Rattle.pipe_model.specs.Ends.{Half, fresh, present as present_of, is_o
 ghost use Rattle.pipe_model.specs.Calls.{Writes, Reads, Finishes, Closes, Aborts, calls};
 ghost use Rattle.conn_end.specs.Kept.{StandsFor, SameTerms, IsNew};
 ghost use Rattle.conn_end.specs.Told.{Answers, finds, wrote_told};
-ghost use Rattle.conn_end.specs.Batches.{may_post, owed_by, due_with, owed_alone, batch_of, IsPostable, pieces_for, posts_for};
+ghost use Rattle.conn_end.specs.Batches.{HoldsPiece, IsKeptPiece, may_post, owed_by, due_with, owed_alone, batch_of, IsPostable, pieces_for, posts_for};
 ghost use Rattle.conn_end.specs.Arrivals.{Lands, MayLand, Completes, MayComplete};
 
 mod answers;
@@ -299,6 +299,15 @@ impl ConnEnd {
             pieces,
             message: Some(spell(self.size, self.token, present)),
         }
+    }
+
+    /// The bytes of a piece that has not completed, in two parts.
+    pub fn outgoing(&self, piece: Piece) -> (&[u8], &[u8])
+        requires { IsKeptPiece self.now piece }
+        ensures { (h : Half) (from : ℕ) → HoldsPiece self.now piece h from
+            → result.0.now ++ result.1.now ≡ take piece.len (drop from h.out) }
+    {
+        self.ring.bytes_at(piece)
     }
 
     /// Whether no snapshot is uncompleted.

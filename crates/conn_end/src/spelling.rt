@@ -1,5 +1,5 @@
 //! How snapshots are spelled as CDC messages (RFC 7609, appendix A.4).
-ghost use Rattle.std.specs.Prelude.{◌≡◌, ◌<◌, true};
+ghost use Rattle.std.specs.Prelude.{◌≡◌, ◌<◌};
 ghost use Rattle.smc_num.specs.Numbers.{wire_number, cursor_of};
 ghost use Rattle.pipe_model.specs.Snapshot.{state_flags, spelled, validation, first_snapshot, tells_same, is_last, is_validation};
 

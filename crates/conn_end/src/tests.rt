@@ -94,6 +94,15 @@ fn post(rt: &impl Abort, end: &mut ConnEnd, live: bool) -> Option<Batch> {
     end.next_batch(live)
 }
 
+// How many bytes it keeps of the `len` bytes behind the completed ones, and the first of them.
+fn kept(rt: &impl Abort, end: &ConnEnd, len: u32) -> (usize, Option<u8>) {
+    let told = end.course.fin().told;
+    assert!(rt; len as u64 <= end.accepted.saturating_sub(told));
+    let place = (told % end.size as u64) as u32;
+    let (front, back) = end.outgoing(Piece { place, len });
+    (front.len() + back.len(), front.first().copied())
+}
+
 fn run(rt: &impl Abort, end: &mut ConnEnd, does: Does) -> Gives {
     match does {
         Does::Write(count) => Gives::Told(write(rt, end, count)),
@@ -193,6 +202,7 @@ fn a_full_flight_waits_and_an_abort_tells_no_more_bytes(rt: HostRuntime) -> Resu
     }
     assert!(rt; end.idle() && end.told_end() && !end.peer_end());
     assert_eq!(rt; end.last().number, 3);
+    assert_eq!(rt; kept(&rt, &end, 4), (4, Some(1)));
     Ok(())
 }
 

@@ -1,8 +1,5 @@
-use Rattle.std.proofs.Common.{◌≡◌, ◌∙◌, ℕ, false, true, sym, ap, subst}
-use Rattle.conn_end.specs.Kept.{Kept, Course, at_course, ring_of, IsWhole, StandsFor}
-use Rattle.pipe_model.specs.Ends.{Half}
-use Rattle.cdc_wire.specs.declared.CdcMessage.{CdcMessage}
-use Rattle.pipe_model.specs.declared.snapshot.Snapshot.{Snapshot}
+use Rattle.std.proofs.Common.{◌≡◌, ◌∙◌, false, sym, subst}
+use Rattle.conn_end.specs.Kept.{Kept}
 use Rattle.conn_end.specs.Arrivals.{Completes}
 use Rattle.conn_end.proofs.Arriving.{checks_is, done_requires, done_whole, done}
 use Rattle.conn_end.proofs.ConnEnd.completed.Goals as goal

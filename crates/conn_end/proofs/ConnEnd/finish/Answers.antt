@@ -1,5 +1,5 @@
 use Rattle.std.proofs.Common.{◌∙◌, [], sym, ap, subst}
-use Rattle.conn_end.specs.Kept.{Kept, Course, at_course, ring_of, IsWhole, StandsFor}
+use Rattle.conn_end.specs.Kept.{Kept, Course, at_course, StandsFor}
 use Rattle.pipe_model.specs.Ends.{Half}
 use Rattle.pipe_model.specs.Ends.{fresh}
 use Rattle.pipe_model.specs.Closing.{cause_of}

@@ -1,7 +1,5 @@
-use Rattle.std.proofs.Common.{◌≡◌, ◌∙◌, ℕ, Some, sym, ap, ap₂, subst}
-use Rattle.conn_end.specs.Kept.{Kept, Course, at_course, ring_of, IsWhole, StandsFor}
-use Rattle.pipe_model.specs.Ends.{Half}
-use Rattle.std.specs.Prelude.{Option}
+use Rattle.std.proofs.Common.{◌≡◌, ◌∙◌, Some, sym, ap, ap₂, subst}
+use Rattle.conn_end.specs.Kept.{Kept, ring_of, StandsFor}
 use Rattle.cdc_wire.specs.declared.CdcMessage.{CdcMessage}
 use Rattle.cdc_ring.specs.declared.Piece.{Piece}
 use Rattle.pipe_model.specs.declared.snapshot.Snapshot.{Snapshot}

@@ -1,8 +1,5 @@
-use Rattle.std.proofs.Common.{◌≡◌, ◌∙◌, ℕ, false, true, sym, ap, subst}
-use Rattle.conn_end.specs.Kept.{Kept, Course, at_course, ring_of, IsWhole, StandsFor}
-use Rattle.pipe_model.specs.Ends.{Half}
-use Rattle.cdc_wire.specs.declared.CdcMessage.{CdcMessage}
-use Rattle.pipe_model.specs.declared.snapshot.Snapshot.{Snapshot}
+use Rattle.std.proofs.Common.{◌≡◌, ◌∙◌, false, true, sym, subst}
+use Rattle.conn_end.specs.Kept.{Kept}
 use Rattle.conn_end.specs.Arrivals.{Lands}
 use Rattle.conn_end.proofs.Arriving.{checks_is, whole_validated, validated, landed_whole, landed}
 use Rattle.conn_end.proofs.ConnEnd.take_cdc.Goals as goal

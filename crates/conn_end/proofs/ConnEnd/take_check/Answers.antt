@@ -1,5 +1,5 @@
-use Rattle.std.proofs.Common.{◌≡◌, ◌∙◌, ℕ, cond, Bool, None, Some, sym, ap, subst}
-use Rattle.conn_end.specs.Kept.{Kept, Course, at_course, ring_of, IsWhole, StandsFor}
+use Rattle.std.proofs.Common.{◌≡◌, ◌∙◌, cond, Bool, None, Some, sym, ap, subst}
+use Rattle.conn_end.specs.Kept.{Kept, StandsFor}
 use Rattle.pipe_model.specs.Ends.{Half}
 use Rattle.std.specs.Prelude.{Option}
 use Rattle.cdc_wire.specs.declared.CdcMessage.{CdcMessage}

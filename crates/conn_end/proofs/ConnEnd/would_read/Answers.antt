@@ -1,6 +1,5 @@
 use Rattle.std.proofs.Common.{subst}
-use Rattle.conn_end.specs.Kept.{Kept, Course, at_course, ring_of, IsWhole, StandsFor}
-use Rattle.pipe_model.specs.Ends.{Half}
+use Rattle.conn_end.specs.Kept.{Kept, StandsFor}
 use Rattle.pipe_model.specs.Calls.{Reads}
 use Rattle.conn_end.specs.Told.{Answers}
 use Rattle.conn_end.proofs.Ends.{Stands, answers}

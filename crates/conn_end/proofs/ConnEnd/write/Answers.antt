@@ -1,7 +1,6 @@
-use Rattle.std.proofs.Common.{◌≡◌, ◌∙◌, ◌+◌, ℕ, min, length, None, true, false, sym, ap, subst}
-use Rattle.conn_end.specs.Kept.{Kept, Course, at_course, ring_of, IsWhole, StandsFor}
+use Rattle.std.proofs.Common.{◌≡◌, ◌∙◌, ◌+◌, ℕ, min, length, true, sym, ap, subst}
+use Rattle.conn_end.specs.Kept.{Kept, ring_of, StandsFor}
 use Rattle.pipe_model.specs.Ends.{Half}
-use Rattle.pipe_model.specs.Words.{is_nil}
 use Rattle.pipe_model.specs.Closing.{cause_of}
 use Rattle.pipe_model.specs.Calls.{Writes, accepts, is_ended}
 use Rattle.conn_end.specs.declared.answers.EndReply.{EndReply}

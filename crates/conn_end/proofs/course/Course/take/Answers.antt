@@ -1,4 +1,4 @@
-use Rattle.std.proofs.Common.{◌≡◌, ◌∙◌, sym, subst}
+use Rattle.std.proofs.Common.{◌≡◌, ◌∙◌, subst}
 use Rattle.pipe_model.specs.Ends.{Half, takes_snapshot}
 use Rattle.conn_end.specs.Kept.{Course, at_course}
 use Rattle.conn_end.proofs.Arriving.{takes_aborted}

@@ -1,5 +1,4 @@
 use Rattle.std.proofs.Common.{◌∙◌, sym, ap}
-use Rattle.pipe_model.specs.Ends.{Half}
 use Rattle.conn_end.specs.Kept.{Course, at_course}
 use Rattle.smc_num.specs.Numbers.{wire_number}
 use Rattle.conn_end.proofs.Arriving.{validates_gap}
