@@ -1,0 +1,4 @@
+pub mod Desk
+pub mod Manager
+pub mod Posting
+pub mod Records
