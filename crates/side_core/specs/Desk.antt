@@ -15,6 +15,10 @@ use Rattle.element_ledger.specs.Lendings.{Row, fresh, is_lent, first_free, next_
 use Rattle.failover.specs.Tables.{Links}
 use Rattle.pipe_model.specs.declared.setup.Setup.{Setup}
 use Rattle.pipe_model.specs.declared.verdict.Lacks.{Lacks}
+use Rattle.llc_wire.specs.declared.LlcMessage.{LlcMessage}
+use Rattle.llc_wire.specs.declared.LlcMessage.TheVariants.{ConfirmLink}
+use Rattle.pipe_model.specs.declared.flow.FlowStep.{FlowStep}
+use Rattle.pipe_model.specs.declared.flow.FlowStep.TheVariants.{Live}
 use Rattle.pipe_model.specs.Words.{passes, rmbs_of, elements_of}
 use Rattle.pipe_model.specs.Flows.{Flow, FirstContact, NoFlow, no_flow, is_first_contact, is_adding}
 use Rattle.pipe_model.specs.Keys.{confirms}
@@ -151,3 +155,13 @@ learns_offer link o d = record d { book = binds (record { key = o.key; rmb = rmb
 -- the link of a slot goes live, and the flow that it was confirmed by is over
 abbrev pub goes_live : ℕ → Desk → Desk
 goes_live slot d = record d { links = record d.links { known = set_phase slot LiveLink d.links.known }; flow = record d.flow { link = NoFlow } }
+
+-- what a step of the flows with a CONFIRM LINK, or the reply to one, does to the link of a slot
+abbrev pub confirmed_by : FlowStep → ℕ → Desk → Desk
+confirmed_by (Live reply first) slot d = goes_live slot d
+confirmed_by _ slot d = d
+
+-- that a message is a CONFIRM LINK, or the reply to one
+abbrev pub IsConfirmLink : LlcMessage → Type 0
+IsConfirmLink (ConfirmLink reply mac gid qp link user most) = Unit {0}
+IsConfirmLink _ = ⊥

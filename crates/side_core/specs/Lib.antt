@@ -1,4 +1,7 @@
+pub mod Acting
 pub mod Desk
 pub mod Manager
 pub mod Posting
 pub mod Records
+pub mod Setups
+pub mod Taking

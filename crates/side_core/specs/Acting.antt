@@ -1,0 +1,130 @@
+-- What calls, landings and completions make of a manager, and what is due then.
+-- A reader learns here which end of a connection acts, under which key its bytes go, and where a remote write of the peer lands.
+use Rattle.std.specs.Prelude.{◌≡◌, ◌≤◌, ◌<◌, ◌^◌, ℕ, ◌+◌, ◌-◌, ◌==◌, ◌&&◌, Bool, true, false, if◌then◌else◌, List, [], ◌∷◌, ◌++◌, map, slice_index_or, slice_set, Option, Some, None, option_map}
+use Rattle.smc_num.specs.declared.LinkId.{LinkId}
+use Rattle.smc_num.specs.declared.LinkPhase.TheVariants.{Pending, Live as LiveLink}
+use Rattle.smc_num.specs.Names.{has_link}
+use Rattle.smc_num.specs.Links.{live_links, link_at, phase_at}
+use Rattle.smc_num.specs.Keys.{rmb_bound}
+use Rattle.clc_wire.specs.declared.offer.Offer.{Offer}
+use Rattle.llc_wire.specs.declared.LlcMessage.{LlcMessage}
+use Rattle.rmb_region.specs.Regions.{Buffer, fresh, lands as lands_in, read_round, IsInside}
+use Rattle.pipe_model.specs.declared.post.Post.{Post}
+use Rattle.pipe_model.specs.declared.post.Post.TheVariants.{Llc}
+use Rattle.pipe_model.specs.declared.flow.FlowStep.{FlowStep}
+use Rattle.pipe_model.specs.declared.flow.FlowStep.TheVariants.{Live}
+use Rattle.pipe_model.specs.Flows.{FirstContact}
+use Rattle.pipe_model.specs.Ends.{Half, comes_up, meets_fate}
+use Rattle.pipe_model.specs.Calls.{Call, calls}
+use Rattle.pipe_model.specs.Connections.{WaitsLink, IsUp}
+use Rattle.pipe_model.specs.Messages.{confirm_link}
+use Rattle.conn_end.specs.declared.answers.EndReply.{EndReply}
+use Rattle.conn_end.specs.declared.answers.EndReply.TheVariants.{Take}
+use Rattle.conn_end.specs.Kept.{Kept}
+use Rattle.side_core.specs.declared.route.Route.{Route}
+use Rattle.side_core.specs.declared.route.Way.{Way}
+use Rattle.side_core.specs.Records.{Connection, Records, conn_at, settles, rises}
+use Rattle.side_core.specs.Posting.{due_posts}
+use Rattle.side_core.specs.Desk.{Desk, peer_key, pair_at, goes_live, IsConfirmLink}
+use Rattle.side_core.specs.Manager.{Manager, state_at, with_state}
+
+-- the key under which a connection writes to what its peer offered, 0 where nothing is known of that
+abbrev pub key_to : Desk → LinkId → Option Offer → ℕ
+key_to d link None = 0
+key_to d link (Some o) = peer_key o.address link d
+
+-- how the end of a route may post now
+abbrev pub way_of : Desk → Route → Way
+way_of d route = record { side = d.side; live = route.up && has_link route.link (live_links d.links.known); key = key_to d route.link route.peer }
+
+-- what an end posts that is due, after something was done to it
+abbrev pub due_from : (Half → Half) → Manager Half → Option (Connection Half) → List Post
+due_from act m None = []
+due_from act m (Some c) = due_posts m.records.terms.size m.records.terms.depth m.desk.side (key_to m.desk c.route.link c.route.peer) c.route.peer (act c.end)
+
+-- the same of the end of a socket
+abbrev pub due_at : ℕ → (Half → Half) → Manager Half → List Post
+due_at s act m = due_from act m (conn_at s m.records)
+
+-- something is done to the end of a socket, and what is due then is posted
+abbrev pub acts_at : ℕ → (Half → Half) → Manager Half → Manager Half
+acts_at s act m = record m { records = settles s act m.records }
+
+-- an application calls the end of a socket
+abbrev pub call_of : Call → Manager Half → (Half → Half)
+call_of call m h = calls m.records.terms.size call h
+
+-- what the end of a connection posts as it is established
+abbrev pub risen_from : Manager Half → Option (Connection Half) → List Post
+risen_from m None = []
+risen_from m (Some c) = due_from (comes_up c.route.link) m (Some c)
+
+-- the same of the connection of a socket
+abbrev pub risen_at : ℕ → Manager Half → List Post
+risen_at s m = risen_from m (conn_at s m.records)
+
+-- the buffer of an RMB
+abbrev pub region_at : {E : Type 0} → ℕ → Manager E → Buffer
+region_at rmb m = slice_index_or m.regions (rmb - 1) (fresh 0 0 0)
+
+-- bytes land in the buffer of an RMB
+abbrev pub bytes_land : {E : Type 0} → ℕ → ℕ → List ℕ → Manager E → Manager E
+bytes_land rmb address bytes m = record m { regions = slice_set m.regions (rmb - 1) (lands_in address bytes (region_at rmb m)) }
+
+-- that a remote write may land: its key is bound on the link to an RMB, in which its range lies
+pub record MayWrite {E : Type 0} (link : LinkId) (key address len : ℕ) (m : Manager E) : Type 0 where
+  pub rmb : ℕ
+  pub bound : rmb_bound key link m.desk.keys ≡ Some rmb
+  pub inside : IsInside address len (region_at rmb m)
+
+-- the bytes that an answer to a read hands out: those of the connection's element
+abbrev pub handed_out : {E : Type 0} → EndReply → Option Route → Manager E → List ℕ
+handed_out (Take from len) (Some route) m = read_round route.element.index from len (region_at route.element.rmb m)
+handed_out _ _ m = []
+
+-- the ends of a side hear that a link is live
+abbrev pub all_hear : LinkId → Records Half → Records Half
+all_hear link r = record r { by_socket = map (option_map (λ (c : Connection Half). let k : Connection Half = record c { end = meets_fate link LiveLink c.end } in k)) r.by_socket }
+
+-- a link goes live
+abbrev pub link_lives : LinkId → Manager Half → Manager Half
+link_lives link m = record m { desk = goes_live link.slot m.desk; records = all_hear link m.records }
+
+-- the end of the socket that is in first contact is established
+abbrev pub first_rises : Manager Half → Manager Half
+first_rises m = with_state m.desk.first IsUp (record m { records = rises m.desk.first m.records })
+
+-- what a step with a CONFIRM LINK, or the reply to one, makes of a manager
+abbrev pub confirms_link : FlowStep → LinkId → Manager Half → Manager Half
+confirms_link (Live reply first) link m = if first then first_rises (link_lives link m) else link_lives link m
+confirms_link _ link m = m
+
+-- the reply to CONFIRM LINK
+abbrev pub confirm_reply : {E : Type 0} → Bool → LinkId → Manager E → List Post
+confirm_reply reply link m = if reply then Llc m.desk.side link (confirm_link m.desk.setup m.desk.side true link (pair_at link.slot m.desk)) ∷ [] else []
+
+-- what such a step makes a manager post
+abbrev pub confirming_posts : FlowStep → LinkId → Manager Half → List Post
+confirming_posts (Live reply first) link m = confirm_reply reply link m ++ (if first then risen_at m.desk.first (link_lives link m) else [])
+confirming_posts _ link m = []
+
+-- what a caller must see to: the link is the side's, and where it is confirmed in first contact it is pending, and the end of its
+-- socket waits for it
+pub record MayConfirm {E : Type 0} (message : LlcMessage) (link : LinkId) (m : Manager E) : Type 0 where
+  pub kind : IsConfirmLink message
+  pub slot : link.slot ≡ 1
+  pub group : (m.desk.group == 0) ≡ false
+  pub latest : link_at link.slot m.desk.links.known ≡ Some link
+  pub pending : m.desk.flow.link ≡ FirstContact → phase_at link.slot m.desk.links.known ≡ Pending
+  pub waits : m.desk.flow.link ≡ FirstContact → state_at m.desk.first m ≡ WaitsLink
+
+-- the counts of an end are far from their ends, and what it was told fits into the element behind what was read
+pub record IsSound (size : ℕ) (k : Kept) : Type 0 where
+  pub accepted : k.accepted < 2 ^ 63
+  pub number : k.course.number < 2 ^ 63
+  pub fits : k.course.taken.told ≤ k.course.read + size
+
+-- that of what may be no connection
+abbrev pub IsSoundAt : ℕ → Option (Connection Kept) → Type 0
+IsSoundAt size None = Unit {0}
+IsSoundAt size (Some k) = IsSound size k.end
