@@ -1,5 +1,6 @@
 pub mod Acting
 pub mod Desk
+pub mod Fit
 pub mod Manager
 pub mod Posting
 pub mod Records

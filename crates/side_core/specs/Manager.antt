@@ -61,10 +61,14 @@ abbrev pub IsTiedAt : List Known → Option (Connection Half) → Type 0
 IsTiedAt known None = Unit {0}
 IsTiedAt known (Some c) = IsTied known c
 
+-- a desk and records stand for those of a plain manager, whose ends are tied to its links
+pub record Works (d : Desk) (r : Records Kept) (m : Manager Half) : Type 0 where
+  pub desk : d ≡ m.desk
+  pub records : AllStand r m.records
+  pub tied : (s : ℕ) → IsTiedAt m.desk.links.known (conn_at s m.records)
+
 -- a manager stands for a plain one
 pub record StandsFor (v : Manager Kept) (m : Manager Half) : Type 0 where
-  pub desk : v.desk ≡ m.desk
+  pub works : Works v.desk v.records m
   pub hands : v.hands ≡ m.hands
   pub regions : v.regions ≡ m.regions
-  pub records : AllStand v.records m.records
-  pub tied : (s : ℕ) → IsTiedAt m.desk.links.known (conn_at s m.records)
