@@ -1,23 +1,31 @@
 -- What fits together in a manager.
 -- A reader learns here that an end has a connection exactly in the states in which an element is lent to it, and that each
 -- connection's element is its own.
-use Rattle.std.specs.Prelude.{◌≡◌, ◌≤◌, ℕ, ◌==◌, not, true, false, List, [], ◌∷◌, length, map, filter, All, Option, Some, None, IsSome, IfSome}
-use Rattle.smc_num.specs.Links.{Known}
+use Rattle.std.specs.Prelude.{◌≡◌, ◌≤◌, ℕ, ◌==◌, not, true, false, List, [], ◌∷◌, length, map, filter, All, Option, Some, None, IsSome, IfSome, Bool, ◌+◌}
+use Rattle.smc_num.specs.Links.{Known, first_live}
 use Rattle.smc_num.specs.Places.{all_places, rmb_at}
 use Rattle.clc_wire.specs.declared.offer.Offer.{Offer}
 use Rattle.element_ledger.specs.declared.Element.{Element}
-use Rattle.element_ledger.specs.Lendings.{is_lent, lending_of}
+use Rattle.element_ledger.specs.Lendings.{is_lent, lending_of, IsLent}
 use Rattle.rmb_region.specs.Regions.{Buffer}
+use Rattle.smc_num.specs.declared.LinkId.{LinkId}
+use Rattle.clc_wire.specs.declared.message.ClcMessage.{ClcMessage}
+use Rattle.clc_wire.specs.declared.message.ClcMessage.TheVariants.{Accept, Confirm}
+use Rattle.pipe_model.specs.declared.verdict.ClcStep.{ClcStep}
+use Rattle.pipe_model.specs.declared.verdict.ClcStep.TheVariants.{SendAccept, SendConfirm, Decline, Fell, Ready, Lost, Wrong}
 use Rattle.pipe_model.specs.Words.{element_size, elements_of}
 use Rattle.pipe_model.specs.Lending.{terms_of}
+use Rattle.pipe_model.specs.Flows.{is_first_contact}
 use Rattle.pipe_model.specs.Ends.{Half}
 use Rattle.pipe_model.specs.Connections.{EndState, NoEnd, WaitsProposal, WaitsAnswer, WaitsConfirm, WaitsLink, IsUp, HasFallen, WasReset}
 use Rattle.conn_end.specs.Kept.{Kept}
 use Rattle.side_core.specs.declared.route.Route.{Route}
-use Rattle.side_core.specs.Records.{route_at}
-use Rattle.side_core.specs.Setups.{IsSet}
-use Rattle.side_core.specs.Desk.{Desk}
+use Rattle.side_core.specs.Records.{route_at, Records, conn_at}
+use Rattle.side_core.specs.Setups.{IsSet, CanStart, CanBegin}
+use Rattle.side_core.specs.Desk.{Desk, made_on}
 use Rattle.side_core.specs.Manager.{Manager, StandsFor, state_at}
+use Rattle.side_core.specs.Acting.{IsSoundAt}
+use Rattle.side_core.specs.Taking.{IsOffer}
 
 -- a connection that suits the state of its end: the server's that waits for a Confirm knows no offer yet, one that waits for its
 -- link does, and so does one that is up
@@ -69,6 +77,7 @@ pub record IsFit (m : Manager Half) : Type 0 where
   pub tokens : m.records.tokens ≤ length m.records.by_socket
   pub quiet : (m.desk.group == 0) ≡ true → m.desk.links.known ≡ []
   pub confirmed : (m.desk.group == 0) ≡ false → m.desk.confirmed ≡ 1 ∷ []
+  pub live : (m.desk.group == 0) ≡ false → is_first_contact m.desk.flow.link ≡ false → IsSome (first_live m.desk.links.known)
   pub suits : (s : ℕ) → Suits (state_at s m) (route_at s m.records)
   pub elements : (s : ℕ) → HasElement s m.desk (route_at s m.records)
 
@@ -77,3 +86,30 @@ pub record IsManager (v : Manager Kept) : Type 0 where
   pub plain : Manager Half
   pub stands : StandsFor v plain
   pub fit : IsFit plain
+
+-- a desk and records as those of a manager
+abbrev pub beside : {E : Type 0} → Desk → Records E → Manager E
+beside d r = record { desk = d; hands = []; records = r; regions = [] }
+
+-- what a connection must be that takes the Confirm on its link
+abbrev pub IsAwaiting : LinkId → Option Route → Type 0
+IsAwaiting link None = ⊥
+IsAwaiting link (Some r) = (r.link ≡ link) × (r.peer ≡ None)
+
+-- a connection whose element is lent may give it back
+abbrev pub MayQuit : Desk → Option Route → Type 0
+MayQuit d None = Unit {0}
+MayQuit d (Some r) = IsLent r.element d.rows
+
+-- what a step of the handshake needs
+abbrev pub Allows : ℕ → ClcStep → ClcMessage → LinkId → List Bool → Desk → Records Kept → Type 0
+Allows s (SendAccept true) message link paths d r = CanStart s d r × CanBegin d × (length paths ≡ 1)
+Allows s (SendAccept false) message link paths d r = CanStart s d r × ((d.group == 0) ≡ false) × IsSome (first_live d.links.known) × IsOneSlot d.links.known
+Allows s (SendConfirm true) (Accept o) link paths d r = CanStart s d r × CanBegin d × IsOffer o link (beside d r) × (link.incarnation ≡ made_on link.slot d + 1)
+Allows s (SendConfirm false) (Accept o) link paths d r = CanStart s d r × ((d.group == 0) ≡ false) × IsOffer o link (beside d r)
+Allows s Ready (Confirm o) link paths d r = IsAwaiting link (route_at s r) × IsOffer o link (beside d r) × IsSoundAt r.terms.size (conn_at s r)
+Allows s (Decline lack) message link paths d r = MayQuit d (route_at s r)
+Allows s Fell message link paths d r = MayQuit d (route_at s r)
+Allows s Lost message link paths d r = MayQuit d (route_at s r)
+Allows s (Wrong kind) message link paths d r = MayQuit d (route_at s r)
+Allows s _ message link paths d r = Unit {0}
