@@ -26,6 +26,11 @@ pub record Manager (E : Type 0) : Type 0 where
 abbrev pub no_hand : Hand
 no_hand = record { raw = false; state = NoEnd }
 
+-- the handshake of a socket that may have an end
+abbrev pub hand_of : Option Hand → Hand
+hand_of None = no_hand
+hand_of (Some hand) = hand
+
 -- the handshake of a socket
 abbrev pub hand_at : {E : Type 0} → ℕ → Manager E → Hand
 hand_at s m = slice_index_or m.hands s no_hand
