@@ -1,3 +1,4 @@
 pub mod Connection
 pub mod Played
 pub mod Steps
+pub mod Wired
