@@ -1,6 +1,6 @@
 -- One wire beside the private pipes of the connections that share it.
 -- A reader learns here which CDC messages on a wire are those of an end, what its pipe has under way, and when the two agree.
-use Rattle.std.specs.Prelude.{◌≡◌, ℕ, ◌-◌, ◌==◌, ◌&&◌, Bool, true, false, if◌then◌else◌, List, [], ◌∷◌, map, filter_map, take, Option, Some, None}
+use Rattle.std.specs.Prelude.{◌≡◌, ℕ, ◌-◌, ◌==◌, ◌&&◌, not, Bool, true, false, if◌then◌else◌, List, [], ◌∷◌, ◌++◌, map, filter_map, take, Option, Some, None}
 use Rattle.smc_num.specs.declared.Side.{Side}
 use Rattle.smc_num.specs.declared.LinkId.{LinkId}
 use Rattle.smc_num.specs.Names.{same_side}
@@ -91,3 +91,28 @@ keeps_open _ = true
 abbrev pub EachItem : (Item → Bool) → List Item → Type 0
 EachItem test [] = Unit {0}
 EachItem test (item ∷ items) = (test item ≡ true) × EachItem test items
+
+-- whether an item leaves the messages of the end at a side where they are: none of them lands or completes
+abbrev pub passes_by : Side → Item → Bool
+passes_by x (Lands y) = not (same_side x y)
+passes_by x (Completes y) = not (same_side x y)
+passes_by x (Calls y call) = is_transfer call
+passes_by x _ = true
+
+-- that of an end so many messages have landed and completed now, and that it has sent some more since
+pub record HasGone (before now : Half) (landed completed : ℕ) : Type 0 where
+  pub landed_is : now.landed ≡ landed
+  pub completed_is : now.completed ≡ completed
+  pub more : List Sent
+  pub sent_is : now.sent ≡ before.sent ++ more
+
+-- that an end which is established is so on this link, and has sent all its messages on it
+pub record IsOnLink (link : LinkId) (h : Half) : Type 0 where
+  pub own : h.up ≡ true → h.link ≡ link
+  pub sent : EachOf (λ m. m.link ≡ link) h.sent
+
+-- that each establishment is on this link
+abbrev pub EachUpOn : LinkId → List Item → Type 0
+EachUpOn link [] = Unit {0}
+EachUpOn link (Up x l ∷ items) = (l ≡ link) × EachUpOn link items
+EachUpOn link (item ∷ items) = EachUpOn link items
