@@ -2,3 +2,4 @@ pub mod Lists
 pub mod Sound
 pub mod OpenEnds
 pub mod Growth
+pub mod Idle
