@@ -3,3 +3,4 @@ pub mod Sound
 pub mod OpenEnds
 pub mod Growth
 pub mod Idle
+pub mod Carrying

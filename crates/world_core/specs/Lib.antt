@@ -2,3 +2,4 @@ pub mod Connection
 pub mod Played
 pub mod Steps
 pub mod Wired
+pub mod WireSteps
