@@ -4,3 +4,4 @@ pub mod OpenEnds
 pub mod Growth
 pub mod Idle
 pub mod Carrying
+pub mod Carried
