@@ -5,3 +5,4 @@ pub mod Growth
 pub mod Idle
 pub mod Carrying
 pub mod Carried
+pub mod PipePosts
