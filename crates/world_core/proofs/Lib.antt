@@ -6,3 +6,4 @@ pub mod Idle
 pub mod Carrying
 pub mod Carried
 pub mod PipePosts
+pub mod Places

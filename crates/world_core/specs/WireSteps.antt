@@ -1,12 +1,13 @@
 -- What an entry does to one wire: nothing leaves it, its next post lands, or its oldest landed post completes.
 -- A reader learns here the three ways in which a wire goes on, and which posts with CDC messages stand on which link.
-use Rattle.std.specs.Prelude.{◌≡◌, ℕ, Bool, true, false, List, [], ◌∷◌}
+use Rattle.std.specs.Prelude.{◌≡◌, ◌≤◌, ℕ, Bool, true, false, List, [], ◌∷◌, length, Some}
 use Rattle.smc_num.specs.declared.Side.{Side}
 use Rattle.smc_num.specs.declared.LinkId.{LinkId}
 use Rattle.pipe_model.specs.declared.post.Post.{Post}
 use Rattle.pipe_model.specs.declared.post.Post.TheVariants.{Cdc}
 use Rattle.pipe_model.specs.declared.post.Placed.{Placed}
 use Rattle.pipe_model.specs.declared.entry.Entry.{Entry}
+use Rattle.pipe_model.specs.History.{post_at}
 use Rattle.pipe_model.specs.Wires.{unlanded, uncompleted, if_latest, leaves, lands_on, completes_on}
 
 -- how many posts of a side leave a link with an entry, how many land, and how many complete
@@ -52,3 +53,13 @@ IsCdcOn link _ = Unit {0}
 abbrev pub EachPost : (Post → Type 0) → List Post → Type 0
 EachPost P [] = Unit {0}
 EachPost P (post ∷ posts) = P post × EachPost P posts
+
+-- that a placed post stands in the history at its place
+pub record StandsAt (past : List Entry) (c : Placed) : Type 0 where
+  pub within : c.at.entry ≤ length past
+  pub is : post_at c.at past ≡ Some c.post
+
+-- that something holds of each placed post
+abbrev pub EachPlaced : (Placed → Type 0) → List Placed → Type 0
+EachPlaced P [] = Unit {0}
+EachPlaced P (c ∷ cs) = P c × EachPlaced P cs
