@@ -3,3 +3,4 @@ pub mod Played
 pub mod Steps
 pub mod Wired
 pub mod WireSteps
+pub mod Agreement
