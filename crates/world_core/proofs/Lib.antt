@@ -1,2 +1,3 @@
+pub mod DataPosts
 pub mod Lists
 pub mod Sound

@@ -1,3 +1,5 @@
 pub mod Connection
+pub mod OneLink
 pub mod Played
 pub mod Steps
+pub mod Views
