@@ -33,7 +33,7 @@ use Rattle.pipe_model.specs.Lending.{lends, lendings, terms_of, Lending}
 use Rattle.pipe_model.specs.Keys.{Keys, by_post as keys_by_post, by_act, if_group, book_act, book_clc, keys_of, book_of}
 use Rattle.pipe_model.specs.Fallback.{clc_in, takes_clc, untaken}
 use Rattle.pipe_model.specs.Posts.{writes, offered_place, cdc_posts, sent_posts, end_posts, pipe_posts, connection_posts, offered_sockets, begins_group_in, groups_begun}
-use Rattle.world_core.specs.OneLink.{llc_of, llc_in}
+use Rattle.world_core.specs.OneLink.{llc_of, llc_in, posted_llc}
 use Rattle.world_core.specs.Views.{is_data, AreData, plus, ShowsSame}
 use Rattle.std.specs.Option.{option_or}
 use Rattle.clc_wire.specs.declared.message.ClcMessage.{ClcMessage}
@@ -160,10 +160,7 @@ no-keys B table ks = by-data (λ p. keys_by_post B table ks p ≡ ks) (λ from l
 no-llc : (p : Post) → is_data p ≡ true → llc_of p ≡ None
 no-llc = by-data (λ p. llc_of p ≡ None) (λ from link key address len. refl) (λ from link m. refl)
 
--- the LLC posts of an entry on a link, with their places
-abbrev posted-llc : LinkId → Side → ℕ → ℕ → List Post → List Post
-posted-llc link x entry first ps = filter_map llc_in (filter (λ c. is_on link x c.post) (numbered entry first ps))
-
+-- the LLC posts on a wire
 skip-llc : (b : Bool) (c : Placed) (cs : List Placed) → llc_of c.post ≡ None → filter_map llc_in (cond b (c ∷ cs) cs) ≡ filter_map llc_in cs
 skip-llc true c cs e = rw e refl
 skip-llc false c cs e = refl
@@ -172,7 +169,7 @@ cond-llc : (b : Bool) (c : Placed) (cs ds : List Placed) → filter_map llc_in c
 cond-llc true c cs ds e = ap (λ ps. cons_option (llc_in c) ps) e
 cond-llc false c cs ds e = e
 
-unseen-llc : (link : LinkId) (x : Side) (entry first : ℕ) (ps more : List Post) → AreData more → posted-llc link x entry first (ps ++ more) ≡ posted-llc link x entry first ps
+unseen-llc : (link : LinkId) (x : Side) (entry first : ℕ) (ps more : List Post) → AreData more → posted_llc link x entry first (ps ++ more) ≡ posted_llc link x entry first ps
 unseen-llc link x entry first [] [] a = refl
 unseen-llc link x entry first [] (m ∷ more) a =
     let c : Placed = record { at = record { entry = entry; post = first }; post = m } in

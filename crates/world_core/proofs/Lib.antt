@@ -1,3 +1,4 @@
 pub mod DataPosts
 pub mod Lists
+pub mod Moves
 pub mod Sound

@@ -1,5 +1,6 @@
 pub mod Connection
 pub mod OneLink
 pub mod Played
+pub mod Sockets
 pub mod Steps
 pub mod Views

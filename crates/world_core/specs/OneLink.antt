@@ -1,6 +1,6 @@
 -- The one link of a world of one link, and how far it has come after a history.
 -- A reader learns here the steps of its making, and what each side holds at each of them: group, link, flow, keys, messages under way.
-use Rattle.std.specs.Prelude.{◌≡◌, ℕ, true, false, List, [], ◌∷◌, filter_map, Option, Some, None}
+use Rattle.std.specs.Prelude.{◌≡◌, ℕ, true, false, List, [], ◌∷◌, filter, filter_map, Option, Some, None}
 use Rattle.smc_num.specs.declared.Side.{Side}
 use Rattle.smc_num.specs.declared.Side.TheVariants.{A, B}
 use Rattle.smc_num.specs.declared.LinkId.{LinkId}
@@ -14,9 +14,10 @@ use Rattle.pipe_model.specs.declared.post.Post.{Post}
 use Rattle.pipe_model.specs.declared.post.Post.TheVariants.{Llc}
 use Rattle.pipe_model.specs.declared.post.Placed.{Placed}
 use Rattle.pipe_model.specs.declared.entry.Entry.{Entry}
+use Rattle.pipe_model.specs.History.{numbered}
 use Rattle.pipe_model.specs.Flows.{FirstContact, no_flow}
 use Rattle.pipe_model.specs.Fabric.{Peer, Fabric, no_group, path_up, fabric}
-use Rattle.pipe_model.specs.Wires.{unlanded, is_cut}
+use Rattle.pipe_model.specs.Wires.{is_on, unlanded, is_cut}
 use Rattle.pipe_model.specs.Keys.{Keys, no_keys, keys_of, book_of}
 use Rattle.pipe_model.specs.Messages.{confirm_link}
 use Rattle.pipe_model.specs.Posts.{groups_begun}
@@ -99,6 +100,10 @@ llc_in c = llc_of c.post
 -- the LLC posts of a side on a link that have not landed
 abbrev pub llc_waiting : LinkId → Side → List Entry → List Post
 llc_waiting link x past = filter_map llc_in (unlanded link x past)
+
+-- the LLC posts among those of an entry that go on a link, the first of them having this number
+abbrev pub posted_llc : LinkId → Side → ℕ → ℕ → List Post → List Post
+posted_llc link x entry first posts = filter_map llc_in (filter (λ c. is_on link x c.post) (numbered entry first posts))
 
 -- those at each step: the CONFIRM LINK of B, then the reply of A
 abbrev pub waiting_at : Setup → Side → Stage → List Post
