@@ -1,4 +1,6 @@
+pub mod DataPosts
 pub mod Lists
+pub mod Moves
 pub mod Sound
 pub mod OpenEnds
 pub mod Growth

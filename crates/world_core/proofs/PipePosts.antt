@@ -25,6 +25,7 @@ use Rattle.pipe_model.specs.Connections.{group_on, items, part}
 use Rattle.pipe_model.specs.Lending.{terms_of}
 use Rattle.pipe_model.specs.Posts.{writes, offered_place, cdc_posts, sent_posts, end_posts, pipe_posts, is_offered, offered_sockets, connection_posts}
 use Rattle.world_core.specs.Wired.{cdc_under, if_meant, message}
+use Rattle.world_core.specs.Agreement.{IsElse}
 use Rattle.world_core.specs.WireSteps.{IsCdcOn, EachPost}
 
 -- lists
@@ -121,11 +122,6 @@ batch-other x token size key o m = batch-by x (other x) token size key o m m.che
 sent-other : (x : Side) (token size : ℕ) (o : Option Offered) (past : List Entry) (m : Sent) → filter_map (cdc_under x token) (sent_posts size (other x) o past m) ≡ []
 sent-other x token size None past m = refl
 sent-other x token size (Some o) past m = batch-other x token size _ o.offer m
-
--- whether an offer has another token
-abbrev pub IsElse : ℕ → Option Offered → Type 0
-IsElse token None = Unit {0}
-IsElse token (Some o) = (token == o.offer.token) ≡ false
 
 sent-else : (x : Side) (token size : ℕ) (o : Option Offered) (past : List Entry) (m : Sent) → IsElse token o → filter_map (cdc_under x token) (sent_posts size x o past m) ≡ []
 sent-else x token size None past m e = refl

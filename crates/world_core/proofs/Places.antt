@@ -9,7 +9,7 @@ use Rattle.pipe_model.specs.declared.post.Placed.{Placed}
 use Rattle.pipe_model.specs.declared.entry.Entry.{Entry}
 use Rattle.pipe_model.specs.History.{next_number, entry_at, post_at, numbered}
 use Rattle.pipe_model.specs.Wires.{is_on, completes_later, unlanded, uncompleted}
-use Rattle.world_core.specs.WireSteps.{StandsAt, EachPlaced, leaving, landing_now, completing_now}
+use Rattle.world_core.specs.WireSteps.{IsPlaced, EachPlaced, leaving, landing_now, completing_now}
 
 module _ (P : Placed → Type 0) where
   pub placed-append : (cs ds : List Placed) → EachPlaced P cs → EachPlaced P ds → EachPlaced P (cs ++ ds)
@@ -44,7 +44,7 @@ placed-more P Q f (c ∷ cs) p = (f c p.0, placed-more P Q f cs p.1)
 get-suc : {X : Type 0} (x : X) (xs : List X) (i j : ℕ) → j ≡ suc i → slice_get (x ∷ xs) j ≡ slice_get xs i
 get-suc x xs i j e = ap (λ k. slice_get (x ∷ xs) k) e
 
-stood : (e : Entry) (past : List Entry) (c : Placed) → StandsAt past c → StandsAt (e ∷ past) c
+stood : (e : Entry) (past : List Entry) (c : Placed) → IsPlaced past c → IsPlaced (e ∷ past) c
 stood e past c s =
     let n : length (e ∷ past) ≡ length past + 1 = omega arith in
     let j : length (e ∷ past) - c.at.entry ≡ suc (length past - c.at.entry) = omega (arith, s.within) in
@@ -58,7 +58,7 @@ get-behind : {X : Type 0} (xs : List X) (x : X) (ys : List X) → slice_get (xs 
 get-behind [] x ys = refl
 get-behind (y ∷ xs) x ys = get-behind xs x ys
 
-new-ones : (e : Entry) (past : List Entry) (before posts : List Post) (first : ℕ) → e.posts ≡ before ++ posts → first ≡ length before + 1 → EachPlaced (StandsAt (e ∷ past)) (numbered (next_number past) first posts)
+new-ones : (e : Entry) (past : List Entry) (before posts : List Post) (first : ℕ) → e.posts ≡ before ++ posts → first ≡ length before + 1 → EachPlaced (IsPlaced (e ∷ past)) (numbered (next_number past) first posts)
 new-ones e past before [] first p f = tt
 new-ones e past before (post ∷ posts) first p f =
     let j : length (e ∷ past) - (length past + 1) ≡ 0 = omega arith in
@@ -73,19 +73,19 @@ new-ones e past before (post ∷ posts) first p f =
     )
 
 -- each post that has not landed, and each that has not completed, stands at its place
-pub unlanded-stand : (link : LinkId) (x : Side) (past : List Entry) → EachPlaced (StandsAt past) (unlanded link x past)
+pub unlanded-stand : (link : LinkId) (x : Side) (past : List Entry) → EachPlaced (IsPlaced past) (unlanded link x past)
 unlanded-stand link x [] = tt
-unlanded-stand link x (e ∷ past) = placed-append (StandsAt (e ∷ past)) (drop (leaving link x e past) (unlanded link x past)) _
-    (placed-drop (StandsAt (e ∷ past)) (leaving link x e past) (unlanded link x past) (placed-more (StandsAt past) (StandsAt (e ∷ past)) (stood e past) (unlanded link x past) (unlanded-stand link x past)))
-    (placed-filter (StandsAt (e ∷ past)) (λ c. is_on link x c.post) (numbered (next_number past) 1 e.posts) (new-ones e past [] e.posts 1 refl (omega arith)))
+unlanded-stand link x (e ∷ past) = placed-append (IsPlaced (e ∷ past)) (drop (leaving link x e past) (unlanded link x past)) _
+    (placed-drop (IsPlaced (e ∷ past)) (leaving link x e past) (unlanded link x past) (placed-more (IsPlaced past) (IsPlaced (e ∷ past)) (stood e past) (unlanded link x past) (unlanded-stand link x past)))
+    (placed-filter (IsPlaced (e ∷ past)) (λ c. is_on link x c.post) (numbered (next_number past) 1 e.posts) (new-ones e past [] e.posts 1 refl (omega arith)))
 
-pub uncompleted-stand : (link : LinkId) (x : Side) (past : List Entry) → EachPlaced (StandsAt past) (uncompleted link x past)
+pub uncompleted-stand : (link : LinkId) (x : Side) (past : List Entry) → EachPlaced (IsPlaced past) (uncompleted link x past)
 uncompleted-stand link x [] = tt
-uncompleted-stand link x (e ∷ past) = placed-append (StandsAt (e ∷ past)) (drop (completing_now link x e past) (uncompleted link x past)) _
-    (placed-drop (StandsAt (e ∷ past)) (completing_now link x e past) (uncompleted link x past) (placed-more (StandsAt past) (StandsAt (e ∷ past)) (stood e past) (uncompleted link x past) (uncompleted-stand link x past)))
-    (placed-filter (StandsAt (e ∷ past)) (λ c. completes_later c.post) (take (landing_now link x e past) (unlanded link x past))
-    (placed-take (StandsAt (e ∷ past)) (landing_now link x e past) (unlanded link x past) (placed-more (StandsAt past) (StandsAt (e ∷ past)) (stood e past) (unlanded link x past) (unlanded-stand link x past))))
+uncompleted-stand link x (e ∷ past) = placed-append (IsPlaced (e ∷ past)) (drop (completing_now link x e past) (uncompleted link x past)) _
+    (placed-drop (IsPlaced (e ∷ past)) (completing_now link x e past) (uncompleted link x past) (placed-more (IsPlaced past) (IsPlaced (e ∷ past)) (stood e past) (uncompleted link x past) (uncompleted-stand link x past)))
+    (placed-filter (IsPlaced (e ∷ past)) (λ c. completes_later c.post) (take (landing_now link x e past) (unlanded link x past))
+    (placed-take (IsPlaced (e ∷ past)) (landing_now link x e past) (unlanded link x past) (placed-more (IsPlaced past) (IsPlaced (e ∷ past)) (stood e past) (unlanded link x past) (unlanded-stand link x past))))
 
 -- the first of them
-pub first-stands : (past : List Entry) (cs : List Placed) (c : Placed) (rest : List Placed) → EachPlaced (StandsAt past) cs → cs ≡ c ∷ rest → post_at c.at past ≡ Some c.post
-first-stands past cs c rest p e = let q = subst (λ ds. EachPlaced (StandsAt past) ds) e p in let s = q.0 in s.is
+pub first-stands : (past : List Entry) (cs : List Placed) (c : Placed) (rest : List Placed) → EachPlaced (IsPlaced past) cs → cs ≡ c ∷ rest → post_at c.at past ≡ Some c.post
+first-stands past cs c rest p e = let q = subst (λ ds. EachPlaced (IsPlaced past) ds) e p in let s = q.0 in s.is

@@ -17,7 +17,8 @@ use Rattle.pipe_model.specs.Parts.{IsFeasible}
 use Rattle.pipe_model.specs.Connections.{comes_up, is_up, fates, items, part, group_on}
 use Rattle.pipe_model.specs.Lending.{terms_of, pipe_of}
 use Rattle.pipe_model.specs.Lawful.{draft}
-use Rattle.world_core.specs.Wired.{the_link, cdcs, IsCarried, keeps_open, EachItem, EachUpOn}
+use Rattle.world_core.specs.OneLink.{the_link}
+use Rattle.world_core.specs.Wired.{cdcs, IsCarried, keeps_open, EachItem, EachUpOn}
 
 -- the latest link of the slot: none, or the one link, which is not dead
 abbrev pub IsOnlyLink : List Entry → Type 0

@@ -55,7 +55,7 @@ EachPost P [] = Unit {0}
 EachPost P (post ∷ posts) = P post × EachPost P posts
 
 -- that a placed post stands in the history at its place
-pub record StandsAt (past : List Entry) (c : Placed) : Type 0 where
+pub record IsPlaced (past : List Entry) (c : Placed) : Type 0 where
   pub within : c.at.entry ≤ length past
   pub is : post_at c.at past ≡ Some c.post
 

@@ -19,10 +19,6 @@ use Rattle.pipe_model.specs.Ends.{Half, to_land, to_complete}
 use Rattle.pipe_model.specs.Pipe.{Item, Fate, GroupEnd, Up, Calls, Lands, Completes}
 use Rattle.pipe_model.specs.Parts.{EachOf}
 
--- the first link of the first group on the first slot
-abbrev pub the_link : LinkId
-the_link = record { group = 1; slot = 1; incarnation = 1 }
-
 -- the message, where it is meant
 abbrev pub if_meant : Bool → CdcMessage → Option CdcMessage
 if_meant true m = Some m
