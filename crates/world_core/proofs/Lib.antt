@@ -9,3 +9,4 @@ pub mod Carrying
 pub mod Carried
 pub mod PipePosts
 pub mod Places
+pub mod Ways
