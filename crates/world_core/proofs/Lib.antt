@@ -10,3 +10,4 @@ pub mod Carried
 pub mod PipePosts
 pub mod Places
 pub mod Ways
+pub mod EntryItems
