@@ -11,3 +11,4 @@ pub mod PipePosts
 pub mod Places
 pub mod Ways
 pub mod EntryItems
+pub mod Parts
