@@ -12,3 +12,4 @@ pub mod Places
 pub mod Ways
 pub mod EntryItems
 pub mod Parts
+pub mod Feasible

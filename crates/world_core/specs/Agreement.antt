@@ -12,8 +12,8 @@ use Rattle.pipe_model.specs.Words.{element_size}
 use Rattle.pipe_model.specs.History.{Offered, offered}
 use Rattle.pipe_model.specs.Fabric.{latest, loses_group_with}
 use Rattle.pipe_model.specs.Wires.{is_dead, unlanded, uncompleted}
-use Rattle.pipe_model.specs.Pipe.{Fate, half}
-use Rattle.pipe_model.specs.Parts.{IsFeasible}
+use Rattle.pipe_model.specs.Pipe.{Terms, Item, Fate, half}
+use Rattle.pipe_model.specs.Parts.{IsFeasible, has_swallow}
 use Rattle.pipe_model.specs.Connections.{comes_up, is_up, fates, items, part, group_on}
 use Rattle.pipe_model.specs.Lending.{terms_of, pipe_of}
 use Rattle.pipe_model.specs.Lawful.{draft}
@@ -57,11 +57,13 @@ pub record CarriesNoStranger (x : Side) (past : List Entry) : Type 0 where
   pub landing : (token : ℕ) → ((s : ℕ) → IsElse token (offered (other x) s past)) → cdcs x token (unlanded the_link x past) ≡ []
   pub completing : (token : ℕ) → ((s : ℕ) → IsElse token (offered (other x) s past)) → cdcs x token (uncompleted the_link x past) ≡ []
 
--- that wires and pipes agree: each part can be, with no close in it; the link carries of each end what it has under way, and
--- nothing else
+-- that a part can be, and nothing was swallowed in it
+pub record CanBe (t : Terms) (items : List Item) : Type 0 where
+  pub feasible : IsFeasible t items
+  pub whole : has_swallow t items ≡ false
+
+-- that wires and pipes agree: each part can be, and the one link carries of each end what it has under way, and nothing else
 pub record Agree (setup : Setup) (payload : List ℕ) (past : List Entry) : Type 0 where
-  pub feasible : (s : ℕ) → IsFeasible (terms_of setup) (part payload 1 s past)
-  pub open_items : (s : ℕ) → EachItem keeps_open (part payload 1 s past)
-  pub on_link : (s : ℕ) → EachUpOn the_link (part payload 1 s past)
+  pub part_can_be : (s : ℕ) → CanBe (terms_of setup) (part payload 1 s past)
   pub carried : (x : Side) (s : ℕ) (o : Offered) → offered (other x) s past ≡ Some o → IsCarried (element_size setup) the_link x o.offer.token past (half x (pipe_of setup payload 1 s past))
   pub strange : (x : Side) → CarriesNoStranger x past
