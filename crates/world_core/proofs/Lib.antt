@@ -13,3 +13,4 @@ pub mod Ways
 pub mod EntryItems
 pub mod Parts
 pub mod Feasible
+pub mod AskedPosts
