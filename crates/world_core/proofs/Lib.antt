@@ -14,3 +14,4 @@ pub mod EntryItems
 pub mod Parts
 pub mod Feasible
 pub mod AskedPosts
+pub mod Own
