@@ -15,3 +15,4 @@ pub mod Parts
 pub mod Feasible
 pub mod AskedPosts
 pub mod Own
+pub mod Agreed
