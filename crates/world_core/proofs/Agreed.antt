@@ -6,7 +6,7 @@ use Rattle.std.proofs.lemmas.List.Elements.{filter_map-append}
 use Rattle.std.proofs.Math.ListN.{drop_of_length-le}
 use Rattle.smc_num.specs.declared.Side.{Side}
 use Rattle.smc_num.specs.declared.Side.TheVariants.{A, B}
-use Rattle.smc_num.specs.Names.{other}
+use Rattle.smc_num.specs.Names.{other, head}
 use Rattle.cdc_wire.specs.declared.CdcMessage.{CdcMessage}
 use Rattle.pipe_model.specs.declared.setup.Setup.{Setup}
 use Rattle.pipe_model.specs.declared.post.Post.{Post}
@@ -128,3 +128,144 @@ module _ (setup : Setup) (payload : List ℕ) (e : Entry) (past : List Entry) (b
 
   news-strange : (x : Side) (token : ℕ) → ((s : ℕ) → IsElse token (offered (other x) s past)) → filter_map (cdc_under x token) e.posts ≡ []
   news-strange x token f = news-are x token ∙ nothing-strange setup payload D past x token f
+
+  -- under a token that was not offered nothing is carried, and nothing comes
+  none-and : (o : Option CdcMessage) (ms : List CdcMessage) → cons_option o ms ≡ [] → (o ≡ None) × (ms ≡ [])
+  none-and None ms f = (refl, f)
+  none-and (Some m) ms f = absurd (true≢false (ap (λ ns. is_some (head ns)) f))
+
+  module _ (x : Side) (carries : CarriesNoStranger x past) (token : ℕ) (strange : (s : ℕ) → IsElse token (offered (other x) s past)) where
+    with-none : (ms ns : List CdcMessage) → ms ≡ [] → ns ≡ [] → ms ++ ns ≡ []
+    with-none ms ns f g = ap (λ ks. ks ++ ns) f ∙ g
+
+    strange-rest : (l : LandsNow the_link x e past) → (cdc_under x token l.first.post ≡ None) × (cdcs x token l.rest ≡ [])
+    strange-rest l = none-and (cdc_under x token l.first.post) (cdcs x token l.rest) (ap (λ ps. cdcs x token ps) (sym l.waiting) ∙ carries.landing token strange)
+
+    strange-returning : (l : CompletesNow the_link x e past) → (cdc_under x token l.first.post ≡ None) × (cdcs x token l.rest ≡ [])
+    strange-returning l = none-and (cdc_under x token l.first.post) (cdcs x token l.rest) (ap (λ ps. cdcs x token ps) (sym l.waiting) ∙ carries.completing token strange)
+
+    strange-by : Way payload the_link x e past → (cdcs x token (unlanded the_link x (e ∷ past)) ≡ []) × (cdcs x token (uncompleted the_link x (e ∷ past)) ≡ [])
+    strange-by (inl w) = (
+      stays-unlanded x token the_link e past posts-on w.0 ∙ with-none _ _ (carries.landing token strange) (news-strange x token strange),
+      stays-uncompleted x token the_link e past posts-on w.0 ∙ carries.completing token strange,
+    )
+    strange-by (inr (inl w)) =
+        let l = w.0 in
+        let r = strange-rest l in (
+          lands-unlanded x token the_link e past posts-on l ∙ with-none _ _ r.1 (news-strange x token strange),
+          lands-uncompleted x token the_link e past posts-on l ∙ with-none _ _ (carries.completing token strange) (ap (λ o. cons_option o []) r.0),
+        )
+    strange-by (inr (inr w)) =
+        let l = w.0 in
+        let r = strange-returning l in (
+          completes-unlanded x token the_link e past posts-on l ∙ with-none _ _ (carries.landing token strange) (news-strange x token strange),
+          completes-uncompleted x token the_link e past posts-on l ∙ r.1,
+        )
+
+    pub strange-step : (cdcs x token (unlanded the_link x (e ∷ past)) ≡ []) × (cdcs x token (uncompleted the_link x (e ∷ past)) ≡ [])
+    strange-step = strange-by (way payload past e setup before x only made)
+
+  -- items of a way
+  items-by : (s : ℕ) (ds : List Item) → deeds payload s e.event e.reply past ≡ ds → I s ≡ ds ++ Below s
+  items-by s ds d = items-are payload 1 s e past ∙ ap (λ is. is ++ Below s) d
+
+  calm : (s : ℕ) → EachItem is_fate_or_up (Below s)
+  calm s = below-calm 1 s e past go
+
+  -- how far an end has gone, over the items in another form
+  gone-over : (x : Side) (s l c : ℕ) (js : List Item) → I s ≡ js → HasGone (Now x s) (half x (pipe T (js ++ P s))) l c → HasGone (Now x s) (Then x s) l c
+  gone-over x s l c js f g = subst (λ is. HasGone (Now x s) (half x (pipe T (is ++ P s))) l c) (sym f) g
+
+  module _ (agree : Agree setup payload past) where
+    mark : (x : Side) (s : ℕ) → IsMarked (Now x s)
+    mark x s = let c = agree.part_can_be s in is-marked T x (P s) c.feasible
+
+    module _ (x : Side) (s : ℕ) (o : Offered) (f : offered (other x) s past ≡ Some o) where
+      abbrev Goal : Type 0
+      Goal = IsCarried (element_size setup) the_link x o.offer.token (e ∷ past) (Then x s)
+
+      carried-lands-by : (l : LandsNow the_link x e past) → deeds payload s e.event e.reply past ≡ if_own (Lands x) x s (Some l.first.at) past → IsOrNot x o.offer.token l.first.post → Goal
+      carried-lands-by l d (Is m i n) =
+          let place = first-stands past (unlanded the_link x past) l.first l.rest (unlanded-stand the_link x past) l.waiting in
+          let g = gone-over x s _ _ (Lands x ∷ Below s) (items-by s (Lands x ∷ []) (d ∙ own-some (Lands x) x s l.first.at past o l.first.post f place ∙ ap (λ b. if b then Lands x ∷ [] else []) i)) (gone-lands T x (Below s) (P s) (calm s)) in
+          carried-lands (element_size setup) the_link x o.offer.token e past (Now x s) (Then x s) posts-on (mark x s) (agree.carried x s o f) l m n g (news-own x s o f _ _ g)
+      carried-lands-by l d (IsNot i n) =
+          let place = first-stands past (unlanded the_link x past) l.first l.rest (unlanded-stand the_link x past) l.waiting in
+          let g = gone-over x s _ _ (Below s) (items-by s [] (d ∙ own-some (Lands x) x s l.first.at past o l.first.post f place ∙ ap (λ b. if b then Lands x ∷ [] else []) i)) (gone-below T x (Below s) (P s) (calm s)) in
+          carried-passes (element_size setup) the_link x o.offer.token e past (Now x s) (Then x s) posts-on (mark x s) (agree.carried x s o f) l g (news-own x s o f _ _ g) n
+
+      carried-completes-by : (l : CompletesNow the_link x e past) → deeds payload s e.event e.reply past ≡ if_own (Completes x) x s (Some l.first.at) past → IsOrNot x o.offer.token l.first.post → Goal
+      carried-completes-by l d (Is m i n) =
+          let place = first-stands past (uncompleted the_link x past) l.first l.rest (uncompleted-stand the_link x past) l.waiting in
+          let b = next-completes (element_size setup) the_link x o.offer.token e past (Now x s) (Then x s) posts-on (mark x s) (agree.carried x s o f) l m n in
+          let g = gone-over x s _ _ (Completes x ∷ Below s) (items-by s (Completes x ∷ []) (d ∙ own-some (Completes x) x s l.first.at past o l.first.post f place ∙ ap (λ c. if c then Completes x ∷ [] else []) i))
+              (gone-completes T x (Below s) (P s) (calm s) b.x b.others (mark x s) b.is) in
+          carried-completes (element_size setup) the_link x o.offer.token e past (Now x s) (Then x s) posts-on (mark x s) (agree.carried x s o f) l m n g (news-own x s o f _ _ g) (has-returning (Now x s) b.x b.others b.is)
+      carried-completes-by l d (IsNot i n) =
+          let place = first-stands past (uncompleted the_link x past) l.first l.rest (uncompleted-stand the_link x past) l.waiting in
+          let g = gone-over x s _ _ (Below s) (items-by s [] (d ∙ own-some (Completes x) x s l.first.at past o l.first.post f place ∙ ap (λ b. if b then Completes x ∷ [] else []) i)) (gone-below T x (Below s) (P s) (calm s)) in
+          carried-leaves (element_size setup) the_link x o.offer.token e past (Now x s) (Then x s) posts-on (mark x s) (agree.carried x s o f) l g (news-own x s o f _ _ g) n
+
+      carried-by : Way payload the_link x e past → Goal
+      carried-by (inl w) =
+          let passes = subst (λ is. EachItem (passes_by x) is) (sym (items-are payload 1 s e past))
+              (each-append (passes_by x) (deeds payload s e.event e.reply past) (Below s) (w.1 s) (each-more is_fate_or_up (passes_by x) (fate-or-up-passes x) (Below s) (calm s))) in
+          let g = all-passed-by T x (I s) (P s) passes in
+          carried-stays (element_size setup) the_link x o.offer.token e past (Now x s) (Then x s) posts-on (mark x s) (agree.carried x s o f) g (news-own x s o f _ _ g) w.0
+      carried-by (inr (inl w)) = let l = w.0 in carried-lands-by l (w.1 s) (is-or-not x o.offer.token l.first.post)
+      carried-by (inr (inr w)) = let l = w.0 in carried-completes-by l (w.1 s) (is-or-not x o.offer.token l.first.post)
+
+      -- what the link carried of an end it still carries
+      pub carried-step : Goal
+      carried-step = carried-by (way payload past e setup before x only made)
+
+    -- the part can be
+    over : (s : ℕ) (ds : List Item) → deeds payload s e.event e.reply past ≡ ds → CanBe T ((ds ++ Below s) ++ P s) → CanBe T (I s ++ P s)
+    over s ds d c = subst (λ is. CanBe T (is ++ P s)) (sym (items-by s ds d)) c
+
+    can-below : (s : ℕ) → CanBe T (Below s ++ P s)
+    can-below s = can-more T (Below s) (P s) (each-more is_fate_or_up is_no_message fate-or-up-no-message (Below s) (calm s)) (agree.part_can_be s)
+
+    can-lands-own : (x : Side) (s : ℕ) (o : Offered) → offered (other x) s past ≡ Some o → (l : LandsNow the_link x e past) → deeds payload s e.event e.reply past ≡ if_own (Lands x) x s (Some l.first.at) past → IsOrNot x o.offer.token l.first.post → CanBe T (I s ++ P s)
+    can-lands-own x s o f l d (Is m i n) =
+        let place = first-stands past (unlanded the_link x past) l.first l.rest (unlanded-stand the_link x past) l.waiting in
+        let b = next-lands (element_size setup) the_link x o.offer.token e past (Now x s) (Then x s) posts-on (mark x s) (agree.carried x s o f) l m n in
+        let h : Half = Now x s in
+        over s (Lands x ∷ []) (d ∙ own-some (Lands x) x s l.first.at past o l.first.post f place ∙ ap (λ c. if c then Lands x ∷ [] else []) i)
+        (can-land T x (Below s ++ P s) (room-below T x (Below s) (P s) (calm s) (some-left h.landed h.sent b.x b.others b.is)) (can-below s))
+    can-lands-own x s o f l d (IsNot i n) =
+        let place = first-stands past (unlanded the_link x past) l.first l.rest (unlanded-stand the_link x past) l.waiting in
+        over s [] (d ∙ own-some (Lands x) x s l.first.at past o l.first.post f place ∙ ap (λ c. if c then Lands x ∷ [] else []) i) (can-below s)
+
+    can-completes-own : (x : Side) (s : ℕ) (o : Offered) → offered (other x) s past ≡ Some o → (l : CompletesNow the_link x e past) → deeds payload s e.event e.reply past ≡ if_own (Completes x) x s (Some l.first.at) past → IsOrNot x o.offer.token l.first.post →
+        CanBe T (I s ++ P s)
+    can-completes-own x s o f l d (Is m i n) =
+        let place = first-stands past (uncompleted the_link x past) l.first l.rest (uncompleted-stand the_link x past) l.waiting in
+        let b = next-completes (element_size setup) the_link x o.offer.token e past (Now x s) (Then x s) posts-on (mark x s) (agree.carried x s o f) l m n in
+        over s (Completes x ∷ []) (d ∙ own-some (Completes x) x s l.first.at past o l.first.post f place ∙ ap (λ c. if c then Completes x ∷ [] else []) i)
+        (can-complete T x (Below s ++ P s) (later-below T x (Below s) (P s) (calm s) (has-returning (Now x s) b.x b.others b.is)) (can-below s))
+    can-completes-own x s o f l d (IsNot i n) =
+        let place = first-stands past (uncompleted the_link x past) l.first l.rest (uncompleted-stand the_link x past) l.waiting in
+        over s [] (d ∙ own-some (Completes x) x s l.first.at past o l.first.post f place ∙ ap (λ c. if c then Completes x ∷ [] else []) i) (can-below s)
+
+    can-lands-by : (x : Side) (s : ℕ) (l : LandsNow the_link x e past) → deeds payload s e.event e.reply past ≡ if_own (Lands x) x s (Some l.first.at) past → (o : Option Offered) → offered (other x) s past ≡ o → CanBe T (I s ++ P s)
+    can-lands-by x s l d None f = over s [] (d ∙ own-none (Lands x) x s (Some l.first.at) past f) (can-below s)
+    can-lands-by x s l d (Some o) f = can-lands-own x s o f l d (is-or-not x o.offer.token l.first.post)
+
+    can-completes-by : (x : Side) (s : ℕ) (l : CompletesNow the_link x e past) → deeds payload s e.event e.reply past ≡ if_own (Completes x) x s (Some l.first.at) past → (o : Option Offered) → offered (other x) s past ≡ o → CanBe T (I s ++ P s)
+    can-completes-by x s l d None f = over s [] (d ∙ own-none (Completes x) x s (Some l.first.at) past f) (can-below s)
+    can-completes-by x s l d (Some o) f = can-completes-own x s o f l d (is-or-not x o.offer.token l.first.post)
+
+    can-by : (s : ℕ) → Way payload the_link A e past → Way payload the_link B e past → CanBe T (I s ++ P s)
+    can-by s (inl v) (inl w) =
+        subst (λ is. CanBe T (is ++ P s)) (sym (items-are payload 1 s e past))
+        (can-more T (deeds payload s e.event e.reply past ++ Below s) (P s)
+            (each-append is_no_message (deeds payload s e.event e.reply past) (Below s) (each-both (deeds payload s e.event e.reply past) (v.1 s) (w.1 s)) (each-more is_fate_or_up is_no_message fate-or-up-no-message (Below s) (calm s)))
+            (agree.part_can_be s))
+    can-by s (inr (inl v)) w = can-lands-by A s v.0 (v.1 s) (offered B s past) refl
+    can-by s (inr (inr v)) w = can-completes-by A s v.0 (v.1 s) (offered B s past) refl
+    can-by s (inl v) (inr (inl w)) = can-lands-by B s w.0 (w.1 s) (offered A s past) refl
+    can-by s (inl v) (inr (inr w)) = can-completes-by B s w.0 (w.1 s) (offered A s past) refl
+
+    pub can-step : (s : ℕ) → CanBe T (I s ++ P s)
+    can-step s = can-by s (way payload past e setup before A only made) (way payload past e setup before B only made)
