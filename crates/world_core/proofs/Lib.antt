@@ -16,3 +16,4 @@ pub mod Feasible
 pub mod AskedPosts
 pub mod Own
 pub mod Agreed
+pub mod Agreement
