@@ -57,7 +57,7 @@ each-both : (is : List Item) → EachItem (passes_by A) is → EachItem (passes_
 each-both [] p q = tt
 each-both (i ∷ is) p q = (both-pass i p.0 q.0, each-both is p.1 q.1)
 
-fate-or-up-no-message : (item : Item) → is_fate_or_up item ≡ true → is_no_message item ≡ true
+pub fate-or-up-no-message : (item : Item) → is_fate_or_up item ≡ true → is_no_message item ≡ true
 fate-or-up-no-message item e = both-pass item (fate-or-up-passes A item e) (fate-or-up-passes B item e)
 
 each-drop : (P : Sent → Type 0) (n : ℕ) (ms : List Sent) → EachOf P ms → EachOf P (drop n ms)

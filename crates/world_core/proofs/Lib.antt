@@ -17,3 +17,4 @@ pub mod AskedPosts
 pub mod Own
 pub mod Agreed
 pub mod Agreement
+pub mod Pipes

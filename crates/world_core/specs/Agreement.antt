@@ -12,13 +12,14 @@ use Rattle.pipe_model.specs.Words.{element_size}
 use Rattle.pipe_model.specs.History.{Offered, offered}
 use Rattle.pipe_model.specs.Fabric.{latest, loses_group_with}
 use Rattle.pipe_model.specs.Wires.{is_dead, unlanded, uncompleted}
-use Rattle.pipe_model.specs.Pipe.{Terms, Item, Fate, half}
+use Rattle.pipe_model.specs.Pipe.{Terms, Item, Fate, half, is_near_part}
+use Rattle.pipe_model.specs.Ends.{is_over}
 use Rattle.pipe_model.specs.Parts.{IsFeasible, has_swallow}
 use Rattle.pipe_model.specs.Connections.{comes_up, is_up, fates, items, part, group_on}
 use Rattle.pipe_model.specs.Lending.{terms_of, pipe_of}
 use Rattle.pipe_model.specs.Lawful.{draft}
 use Rattle.world_core.specs.OneLink.{the_link}
-use Rattle.world_core.specs.Wired.{cdcs, IsCarried, keeps_open, EachItem, EachUpOn}
+use Rattle.world_core.specs.Wired.{cdcs, IsCarried, IsOpenEnd, IsOnLink}
 
 -- the latest link of the slot: none, or the one link, which is not dead
 abbrev pub IsOnlyLink : List Entry → Type 0
@@ -67,3 +68,14 @@ pub record Agree (setup : Setup) (payload : List ℕ) (past : List Entry) : Type
   pub part_can_be : (s : ℕ) → CanBe (terms_of setup) (part payload 1 s past)
   pub carried : (x : Side) (s : ℕ) (o : Offered) → offered (other x) s past ≡ Some o → IsCarried (element_size setup) the_link x o.offer.token past (half x (pipe_of setup payload 1 s past))
   pub strange : (x : Side) → CarriesNoStranger x past
+
+-- what holds of the connection of a socket, offered or not, in its own group: its part can be, nothing in it was swallowed, its
+-- ends are open, and an end is up just where that of the socket is
+pub record HasPipe (setup : Setup) (payload : List ℕ) (s : ℕ) (past : List Entry) : Type 0 where
+  pub can_be : CanBe (terms_of setup) (part payload (group_on s past) s past)
+  pub near : is_near_part (terms_of setup) (part payload (group_on s past) s past) ≡ true
+  pub open_end : (x : Side) → IsOpenEnd (half x (pipe_of setup payload (group_on s past) s past))
+  pub not_over : (x : Side) → is_over (half x (pipe_of setup payload (group_on s past) s past)) ≡ false
+  pub up : (x : Side) → (half x (pipe_of setup payload (group_on s past) s past)).up ≡ is_up x s past
+  pub idle : (x : Side) → is_up x s past ≡ false → (half x (pipe_of setup payload (group_on s past) s past)).sent ≡ []
+  pub on_link : (x : Side) → IsOnLink the_link (half x (pipe_of setup payload (group_on s past) s past))
