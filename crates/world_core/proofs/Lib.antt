@@ -18,3 +18,4 @@ pub mod Own
 pub mod Agreed
 pub mod Agreement
 pub mod Pipes
+pub mod Heads
