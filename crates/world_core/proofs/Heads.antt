@@ -27,7 +27,7 @@ use Rattle.world_core.specs.OneLink.{the_link}
 use Rattle.world_core.specs.Wired.{cdc_under, if_meant, cdcs, message, returning, IsCarried, IsOpenSent}
 use Rattle.world_core.specs.WireSteps.{EachPlaced, leaving, landing_now, completing_now}
 use Rattle.world_core.specs.Agreement.{HasOffers, IsShaken, IsElse, Agree, Spelling, next_to_land, next_to_complete}
-use Rattle.world_core.proofs.OpenEnds.{each-head}
+use Rattle.world_core.proofs.OpenEnds.{each-head, MaySent}
 use Rattle.world_core.proofs.Places.{placed-append, placed-drop, placed-take, placed-filter}
 use Rattle.world_core.proofs.Carried.{Begins, begins}
 use Rattle.world_core.proofs.Feasible.{has-returning, returning-head}
@@ -106,3 +106,78 @@ gave setup y token past h = by (search-below y token past setup.sockets)
         at : (s : ℕ) (q : Option Offered) → offered y s past ≡ q → IsElse token q
         at s None e = tt
         at s (Some o) e = subst (λ q. IsElse token q) e (f s (h.known y s o e))
+
+module _ (setup : Setup) (payload : List ℕ) (x : Side) (past : List Entry) (n : ℕ) (played : IsPlayed setup payload past n) (shaken : IsShaken setup past) where
+  abbrev End : ℕ → ℕ → Half
+  End g s = half x (pipe_of setup payload g s past)
+
+  spelled-so : (token : ℕ) (r : Sent) (m : CdcMessage) → r.check ≡ false → m ≡ message (element_size setup) token r → m ≡ spelled (element_size setup) token r.snapshot
+  spelled-so token r m c e = e ∙ ap (λ b. if b then validation (element_size setup) token r.snapshot else spelled (element_size setup) token r.snapshot) c
+
+  spelling : (place : Half → Option Sent) (s : ℕ) (o : Offered) (m : CdcMessage) (r : Sent) → offered (other x) s past ≡ Some o → m.token ≡ o.offer.token → place (End 1 s) ≡ Some r → IsOpenSent r → m ≡ message (element_size setup) o.offer.token r → Spelling setup payload x past m place
+  spelling place s o m r f t p w e = record {
+    s = s;
+    offer = o;
+    offered_is = f;
+    token = t;
+    sent = r;
+    sent_is = subst (λ g. place (End g s) ≡ Some r) (sym (grouped setup past (offers-of setup past shaken) (other x) s o f)) p;
+    open_sent = w;
+    spells = subst (λ k. m ≡ spelled (element_size setup) k r.snapshot) (sym t) (spelled-so o.offer.token r m w.0 e);
+  }
+
+  open-at : (i s : ℕ) (o : Offered) (r : Sent) → offered (other x) s past ≡ Some o → head (drop i (End 1 s).sent) ≡ Some r → IsOpenSent r
+  open-at i s o r f e =
+      let p = has-pipe setup payload s past n played shaken in
+      let q = p.open_end x in
+      let each : EachOf IsOpenSent (End 1 s).sent = subst (λ g. EachOf IsOpenSent (End g s).sent) (grouped setup past (offers-of setup past shaken) (other x) s o f) q.sent in
+      subst (λ k. MaySent IsOpenSent k) e (each-head IsOpenSent i (End 1 s).sent each)
+
+  not-none : (token : ℕ) (m : CdcMessage) (queue : List Placed) (c : Placed) (rest : List Placed) → queue ≡ c ∷ rest → cdc_under x token c.post ≡ Some m → cdcs x token queue ≡ m ∷ cdcs x token rest
+  not-none token m queue c rest q e = ap (λ cs. cdcs x token cs) q ∙ ap (λ k. cons_option k (cdcs x token rest)) e
+
+  -- what lands next
+  pub lands-spelled : (c : Placed) (rest : List Placed) (from : Side) (l : LinkId) (m : CdcMessage) → unlanded the_link x past ≡ c ∷ rest → c.post ≡ Cdc from l m → Spelling setup payload x past m next_to_land
+  lands-spelled c rest from l m q e = by (gave setup (other x) m.token past (offers-of setup past shaken))
+    where
+      agree : Agree setup payload past
+      agree = agrees setup payload past n played shaken
+
+      first : cdcs x m.token (unlanded the_link x past) ≡ m ∷ cdcs x m.token rest
+      first = not-none m.token m (unlanded the_link x past) c rest q (first-meant the_link x (unlanded the_link x past) c rest from l m (unlanded-there the_link x past) q e)
+
+      by : Gave (other x) m.token past ⊎ ((s : ℕ) → IsElse m.token (offered (other x) s past)) → Spelling setup payload x past m next_to_land
+      by (inr f) = let w = agree.strange x in absurd (true≢false (sym (ap (λ ms. is_some (head ms)) (sym (w.landing m.token f) ∙ first))))
+      by (inl g) =
+          let s : ℕ = g.0 in
+          let h = g.1 in
+          let o : Offered = h.0 in
+          let i = h.1 in
+          let w : IsCarried (element_size setup) the_link x o.offer.token past (End 1 s) = agree.carried x s o i.0 in
+          let b = begins (message (element_size setup) o.offer.token) m (cdcs x o.offer.token rest) (to_land (End 1 s)) (sym (subst (λ k. cdcs x k (unlanded the_link x past) ≡ m ∷ cdcs x k rest) i.1 first) ∙ w.landing) in
+          let next : head (to_land (End 1 s)) ≡ Some b.x = ap (λ ms. head ms) b.is in
+          spelling next_to_land s o m b.x i.0 i.1 next (open-at (End 1 s).landed s o b.x i.0 next) b.first_is
+
+  -- what completes next
+  pub completes-spelled : (c : Placed) (rest : List Placed) (from : Side) (l : LinkId) (m : CdcMessage) → uncompleted the_link x past ≡ c ∷ rest → c.post ≡ Cdc from l m → Spelling setup payload x past m next_to_complete
+  completes-spelled c rest from l m q e = by (gave setup (other x) m.token past (offers-of setup past shaken))
+    where
+      agree : Agree setup payload past
+      agree = agrees setup payload past n played shaken
+
+      first : cdcs x m.token (uncompleted the_link x past) ≡ m ∷ cdcs x m.token rest
+      first = not-none m.token m (uncompleted the_link x past) c rest q (first-meant the_link x (uncompleted the_link x past) c rest from l m (uncompleted-there the_link x past) q e)
+
+      by : Gave (other x) m.token past ⊎ ((s : ℕ) → IsElse m.token (offered (other x) s past)) → Spelling setup payload x past m next_to_complete
+      by (inr f) = let w = agree.strange x in absurd (true≢false (sym (ap (λ ms. is_some (head ms)) (sym (w.completing m.token f) ∙ first))))
+      by (inl g) =
+          let s : ℕ = g.0 in
+          let h = g.1 in
+          let o : Offered = h.0 in
+          let i = h.1 in
+          let k : Half = End 1 s in
+          let w : IsCarried (element_size setup) the_link x o.offer.token past (End 1 s) = agree.carried x s o i.0 in
+          let b = begins (message (element_size setup) o.offer.token) m (cdcs x o.offer.token rest) (returning (End 1 s)) (sym (subst (λ t. cdcs x t (uncompleted the_link x past) ≡ m ∷ cdcs x t rest) i.1 first) ∙ w.completing) in
+          let next : head (to_complete (End 1 s)) ≡ Some b.x = returning-head (k.landed - k.completed) (to_complete k) b.others b.x b.is in
+          let landed : k.completed < k.landed = has-returning k b.x b.others b.is in
+          spelling next_to_complete s o m b.x i.0 i.1 (ap (λ c. if c then head (to_complete k) else None) (lt-ltb k.completed k.landed landed) ∙ next) (open-at k.completed s o b.x i.0 next) b.first_is
