@@ -62,7 +62,7 @@ fate-or-up-open (Lands y) e = absurd (true≢false (sym e))
 fate-or-up-open (Completes y) e = absurd (true≢false (sym e))
 
 -- fates alone
-abbrev is_a_fate : Item → Bool
+abbrev pub is_a_fate : Item → Bool
 is_a_fate (Fate x link phase) = true
 is_a_fate _ = false
 

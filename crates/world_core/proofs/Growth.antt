@@ -101,7 +101,7 @@ kept size A (Completes B) p k = (refl, refl, refl)
 kept size B (Completes A) p k = (refl, refl, refl)
 kept size B (Completes B) p k = absurd (true≢false (sym k))
 
-settled-half : (t : Terms) (x : Side) (item : Item) (p : Pipe) → half x (step t item p) ≡ settle t.depth (half x (apply t.size item p))
+pub settled-half : (t : Terms) (x : Side) (item : Item) (p : Pipe) → half x (step t item p) ≡ settle t.depth (half x (apply t.size item p))
 settled-half t A item p = refl
 settled-half t B item p = refl
 

@@ -19,3 +19,4 @@ pub mod Agreed
 pub mod Agreement
 pub mod Pipes
 pub mod Heads
+pub mod Quiet
