@@ -74,6 +74,17 @@ only-fates : (x : Side) (group : ℕ) (before table : List Known) → EachItem i
 only-fates x group before [] = tt
 only-fates x group before (known ∷ table) = one-fate ((known.link.group == group) && (is_fate known.phase && not (same_phase known.phase (phase_of known.link before)))) x known _ (only-fates x group before table)
 
+pub fates-only : (test : Item → Bool) (x : Side) (group : ℕ) (e : Entry) (past : List Entry) → ((link : LinkId) (phase : LinkPhase) → test (Fate x link phase) ≡ true) → EachItem test (fates x group e past)
+fates-only test x group e past f = over (table_of x (e ∷ past))
+  where
+    one-of : (b : Bool) (known : Known) (is : List Item) → EachItem test is → EachItem test (cons_option (if b then Some (Fate x known.link known.phase) else None) is)
+    one-of true known is p = (f known.link known.phase, p)
+    one-of false known is p = p
+
+    over : (table : List Known) → EachItem test (filter_map (fate_of x group (table_of x past)) table)
+    over [] = tt
+    over (known ∷ table) = one-of ((known.link.group == group) && (is_fate known.phase && not (same_phase known.phase (phase_of known.link (table_of x past))))) known _ (over table)
+
 fate-either : (item : Item) → is_a_fate item ≡ true → is_fate_or_up item ≡ true
 fate-either (Fate x link phase) e = refl
 fate-either (Up y link) e = absurd (true≢false (sym e))

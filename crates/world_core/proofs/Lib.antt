@@ -20,3 +20,4 @@ pub mod Agreement
 pub mod Pipes
 pub mod Heads
 pub mod Quiet
+pub mod Senders
