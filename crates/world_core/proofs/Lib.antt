@@ -21,3 +21,4 @@ pub mod Pipes
 pub mod Heads
 pub mod Quiet
 pub mod Senders
+pub mod Batches

@@ -106,7 +106,7 @@ module _ (t : Terms) (x : Side) (items : List Item) where
   abbrev Before : Half
   Before = half x (pipe t items)
 
-  deeds-rest : (ds : List Item) → DeedsAre ds → EachItem (rests x) ds → EachItem keeps_open items → (half x (pipe t (ds ++ items))).sent ≡ Before.sent
+  pub deeds-rest : (ds : List Item) → DeedsAre ds → EachItem (rests x) ds → EachItem keeps_open items → (half x (pipe t (ds ++ items))).sent ≡ Before.sent
   deeds-rest ds (Nothing e) r k = ap (λ is. (half x (pipe t (is ++ items))).sent) e
   deeds-rest ds (Landing y e) r k = ap (λ is. (half x (pipe t (is ++ items))).sent) e ∙ landing-quiet t x y items k
   deeds-rest ds (Calling y call e) r k =
@@ -119,18 +119,18 @@ module _ (t : Terms) (x : Side) (items : List Item) where
   one : (item : Item) → keeps_open item ≡ true → length (half x (pipe t (item ∷ items))).sent ≤ length Before.sent + 1
   one item k = one-more t x item items (apply-sent t.size x item (pipe t items) k)
 
-  deeds-one : (ds : List Item) → DeedsAre ds → EachItem keeps_open ds → length (half x (pipe t (ds ++ items))).sent ≤ length Before.sent + 1
+  pub deeds-one : (ds : List Item) → DeedsAre ds → EachItem keeps_open ds → length (half x (pipe t (ds ++ items))).sent ≤ length Before.sent + 1
   deeds-one ds (Nothing e) k = subst (λ is. length (half x (pipe t (is ++ items))).sent ≤ length Before.sent + 1) (sym e) (omega arith)
   deeds-one ds (Landing y e) k = subst (λ is. length (half x (pipe t (is ++ items))).sent ≤ length Before.sent + 1) (sym e) (one (Lands y) refl)
   deeds-one ds (Calling y call e) k = let q = subst (λ is. EachItem keeps_open is) e k in subst (λ is. length (half x (pipe t (is ++ items))).sent ≤ length Before.sent + 1) (sym e) (one (Calls y call) q.0)
   deeds-one ds (Completing y e) k = subst (λ is. length (half x (pipe t (is ++ items))).sent ≤ length Before.sent + 1) (sym e) (one (Completes y) refl)
 
 -- establishments
-abbrev UpList : Option LinkId → Option LinkId → List Item
+abbrev pub UpList : Option LinkId → Option LinkId → List Item
 UpList a b = reverse (option_to_list (option_map (Up A) a) ++ option_to_list (option_map (Up B) b))
 
 module _ (t : Terms) (items : List Item) where
-  again : (x : Side) (a b : Option LinkId) → ((l : LinkId) → a ≡ Some l → l ≡ the_link) → ((l : LinkId) → b ≡ Some l → l ≡ the_link) → (half x (pipe t items)).up ≡ true → (half x (pipe t items)).link ≡ the_link →
+  pub again : (x : Side) (a b : Option LinkId) → ((l : LinkId) → a ≡ Some l → l ≡ the_link) → ((l : LinkId) → b ≡ Some l → l ≡ the_link) → (half x (pipe t items)).up ≡ true → (half x (pipe t items)).link ≡ the_link →
       (half x (pipe t (UpList a b ++ items))).sent ≡ (half x (pipe t items)).sent
   again x None None f g u l = refl
   again A None (Some k) f g u l = ap (λ (h : Half). h.sent) (all-spared t A (Up B k ∷ []) items (refl, tt))
@@ -142,7 +142,7 @@ module _ (t : Terms) (items : List Item) where
       let s = all-spared t B (Up A j ∷ []) items (refl, tt) in
       again-quiet t B k (Up A j ∷ items) (ap (λ (h : Half). h.up) s ∙ u) (ap (λ (h : Half). h.link) s ∙ l ∙ sym (g k refl)) ∙ ap (λ (h : Half). h.sent) s
 
-  anew : (x : Side) (a b : Option LinkId) → EachItem keeps_open items → AreCallsUp t items → (half x (pipe t items)).up ≡ false → (half x (pipe t (UpList a b ++ items))).sent ≡ (half x (pipe t items)).sent
+  pub anew : (x : Side) (a b : Option LinkId) → EachItem keeps_open items → AreCallsUp t items → (half x (pipe t items)).up ≡ false → (half x (pipe t (UpList a b ++ items))).sent ≡ (half x (pipe t items)).sent
   anew x None None k c u = refl
   anew A None (Some j) k c u = ap (λ (h : Half). h.sent) (all-spared t A (Up B j ∷ []) items (refl, tt))
   anew B None (Some j) k c u = new-quiet t B j items k c u
@@ -154,7 +154,7 @@ module _ (t : Terms) (items : List Item) where
       new-quiet t B j (Up A i ∷ items) (refl, k) (tt, c) (ap (λ (h : Half). h.up) s ∙ u) ∙ ap (λ (h : Half). h.sent) s
 
 -- calls are made on ends that are up
-calm-calls : (t : Terms) (news items : List Item) → EachItem is_fate_or_up news → AreCallsUp t items → AreCallsUp t (news ++ items)
+pub calm-calls : (t : Terms) (news items : List Item) → EachItem is_fate_or_up news → AreCallsUp t items → AreCallsUp t (news ++ items)
 calm-calls t [] items p c = c
 calm-calls t (Fate x link phase ∷ news) items p c = (tt, calm-calls t news items p.1 c)
 calm-calls t (Up x link ∷ news) items p c = (tt, calm-calls t news items p.1 c)
