@@ -69,7 +69,7 @@ module _ (link : LinkId) (x : Side) where
       ap (λ post. cdc_under x m.token post) e ∙ ap (λ b. if_meant (b && (m.token == m.token)) m) same ∙ ap (λ b. if_meant b m) (eq-eqb m.token m.token refl)
 
 -- some offer gave a token, or none did
-abbrev Gave : Side → ℕ → List Entry → Type 0
+abbrev pub Gave : Side → ℕ → List Entry → Type 0
 Gave y token past = (s : ℕ) × ((o : Offered) × ((offered y s past ≡ Some o) × (token ≡ o.offer.token)))
 
 gave-by : (y : Side) (token : ℕ) (past : List Entry) (s : ℕ) (q : Option Offered) → offered y s past ≡ q → Gave y token past ⊎ IsElse token q
@@ -96,7 +96,7 @@ search-below y token past (suc n) = by (search-below y token past n) (gave-by y 
             below : (s : ℕ) → s < suc n → ((s ≡ n) → ⊥) → s < n
             below s l d = omega (arith, l, d)
 
-gave : (setup : Setup) (y : Side) (token : ℕ) (past : List Entry) → HasOffers setup past → Gave y token past ⊎ ((s : ℕ) → IsElse token (offered y s past))
+pub gave : (setup : Setup) (y : Side) (token : ℕ) (past : List Entry) → HasOffers setup past → Gave y token past ⊎ ((s : ℕ) → IsElse token (offered y s past))
 gave setup y token past h = by (search-below y token past setup.sockets)
   where
     by : Gave y token past ⊎ ((s : ℕ) → s < setup.sockets → IsElse token (offered y s past)) → Gave y token past ⊎ ((s : ℕ) → IsElse token (offered y s past))

@@ -22,3 +22,4 @@ pub mod Heads
 pub mod Quiet
 pub mod Senders
 pub mod Batches
+pub mod OneSender
