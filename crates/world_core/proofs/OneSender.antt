@@ -178,3 +178,73 @@ module _ (setup : Setup) (payload : List ℕ) (e : Entry) (past : List Entry) (b
 
   single : Single
   single = single-by e.event refl made.built
+
+  -- what the pipes of the sockets post
+  end-none : (y : Side) (t : ℕ) → given setup payload D past y t ≡ [] → end_posts setup payload y t D past ≡ []
+  end-none y t f = ap (λ ms. flat_map (sent_posts (element_size setup) y (offered (other y) t past) (D ∷ past)) ms) f
+
+  rest-posts : (y : Side) (t : ℕ) → EachItem (rests y) (Deeds t) → end_posts setup payload y t D past ≡ []
+  rest-posts y t r = end-none y t (given-none setup payload e past before n made played offers only go shaken calm y t r)
+
+  both-none : (ps qs : List Post) → ps ≡ [] → qs ≡ [] → ps ++ qs ≡ []
+  both-none ps qs f g = ap (λ rs. rs ++ qs) f ∙ g
+
+  none-of : (q : Single) (t : ℕ) → (t == q.s) ≡ false → pipe_posts setup payload t D past ≡ []
+  none-of q t f = both-none (end_posts setup payload A t D past) (end_posts setup payload B t D past) (rest-posts A t (q.rest A t (ap (λ b. b && same_side A q.x) f))) (rest-posts B t (q.rest B t (ap (λ b. b && same_side B q.x) f)))
+
+  apart : (x : Side) (s : ℕ) → ((s == s) && same_side (other x) x) ≡ false
+  apart A s = last-no (s == s)
+    where
+      last-no : (b : Bool) → (b && false) ≡ false
+      last-no true = refl
+      last-no false = refl
+  apart B s = last-no (s == s)
+    where
+      last-no : (b : Bool) → (b && false) ≡ false
+      last-no true = refl
+      last-no false = refl
+
+  one-end : (x : Side) (s : ℕ) → EachItem (rests (other x)) (Deeds s) → pipe_posts setup payload s D past ≡ end_posts setup payload x s D past
+  one-end A s r = ap (λ ps. end_posts setup payload A s D past ++ ps) (rest-posts B s r) ∙ append-nil (end_posts setup payload A s D past)
+  one-end B s r = ap (λ ps. ps ++ end_posts setup payload B s D past) (rest-posts A s r)
+
+  posts-of : (q : Single) → pipe_posts setup payload q.s D past ≡ end_posts setup payload q.x q.s D past
+  posts-of q = one-end q.x q.s (q.rest (other q.x) q.s (apart q.x q.s))
+
+  -- where the one end was not offered, nothing is posted at all
+  nowhere : (q : Single) → end_posts setup payload q.x q.s D past ≡ [] → connection_posts setup payload D past ≡ []
+  nowhere q f = flat-none (λ t. pipe_posts setup payload t D past) (offered_sockets setup past) (λ t. by t (t == q.s) refl)
+    where
+      by : (t : ℕ) (b : Bool) → (t == q.s) ≡ b → pipe_posts setup payload t D past ≡ []
+      by t true g = ap (λ k. pipe_posts setup payload k D past) (eqb-true t q.s g) ∙ posts-of q ∙ f
+      by t false g = none-of q t g
+
+  all-of : (q : Single) (o : Offered) → offered (other q.x) q.s past ≡ Some o → connection_posts setup payload D past ≡ end_posts setup payload q.x q.s D past
+  all-of q o f =
+      met (λ t. pipe_posts setup payload t D past) (is_offered past) q.s (none-of q) 1 setup.sockets (ap (λ g. not (g == 0)) (grouped setup past offers (other q.x) q.s o f)) (omega arith) (omega arith) (omega (arith, offers.known (other q.x) q.s o f)) ∙ posts-of q
+
+  few-by-given : (q : Single) (o : Offered) → offered (other q.x) q.s past ≡ Some o → (ms : List Sent) → given setup payload D past q.x q.s ≡ ms → length ms ≤ 1 → PostsFew setup payload D past
+  few-by-given q o f [] g l = inl (nowhere q (end-none q.x q.s g))
+  few-by-given q o f (m ∷ []) g l =
+      let posts : connection_posts setup payload D past ≡ sent_posts (element_size setup) q.x (Some o) (D ∷ past) m =
+          all-of q o f ∙ ap (λ r. flat_map (sent_posts (element_size setup) q.x r (D ∷ past)) (given setup payload D past q.x q.s)) f ∙ ap (λ ns. flat_map (sent_posts (element_size setup) q.x (Some o) (D ∷ past)) ns) g ∙
+          append-nil (sent_posts (element_size setup) q.x (Some o) (D ∷ past) m) in
+      inr (record {
+        x = q.x;
+        s = q.s;
+        offer = o;
+        offered_is = f;
+        sent = m;
+        sent_is = subst (λ k. posts_of (terms_of setup) q.x (items payload k q.s D past) (part payload k q.s past) ≡ m ∷ []) (grouped setup past offers (other q.x) q.s o f) g;
+        posts_are = posts;
+        few = subst (λ ps. length ps ≤ 3) (sym posts) (few-sent (element_size setup) q.x o (D ∷ past) m);
+      })
+  few-by-given q o f (m ∷ r ∷ ms) g l = absurd (omega (arith, l))
+
+  few-by-offer : (q : Single) (o : Option Offered) → offered (other q.x) q.s past ≡ o → PostsFew setup payload D past
+  few-by-offer q None f = inl (nowhere q (ap (λ r. flat_map (sent_posts (element_size setup) q.x r (D ∷ past)) (given setup payload D past q.x q.s)) f ∙ flat-none _ (given setup payload D past q.x q.s) (λ m. refl)))
+  few-by-offer q (Some o) f = few-by-given q o f (given setup payload D past q.x q.s) refl (given-few setup payload e past before n made played offers only go shaken calm q.x q.s)
+
+  -- nothing is posted by the pipes, or one batch of one end
+  pub posts-few : PostsFew setup payload D past
+  posts-few = let q = single in few-by-offer q (offered (other q.x) q.s past) refl
