@@ -1,4 +1,7 @@
 pub mod DataPosts
+pub mod InHistory
 pub mod Lists
 pub mod Moves
+pub mod Offers
 pub mod Sound
+pub mod Verdicts
