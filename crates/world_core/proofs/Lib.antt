@@ -3,5 +3,6 @@ pub mod InHistory
 pub mod Lists
 pub mod Moves
 pub mod Offers
+pub mod QuietEvents
 pub mod Sound
 pub mod Verdicts
