@@ -1,4 +1,6 @@
+pub mod ClcMoves
 pub mod DataPosts
+pub mod Handshakes
 pub mod InHistory
 pub mod Lists
 pub mod Moves
