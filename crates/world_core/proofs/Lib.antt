@@ -2,6 +2,7 @@ pub mod ClcMoves
 pub mod DataPosts
 pub mod Handshakes
 pub mod InHistory
+pub mod LinkMoves
 pub mod Lists
 pub mod Moves
 pub mod Offers
