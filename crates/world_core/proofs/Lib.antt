@@ -8,4 +8,5 @@ pub mod Moves
 pub mod Offers
 pub mod QuietEvents
 pub mod Sound
+pub mod TakenMessages
 pub mod Verdicts
