@@ -8,5 +8,6 @@ pub mod Moves
 pub mod Offers
 pub mod QuietEvents
 pub mod Sound
+pub mod TakenAnswers
 pub mod TakenMessages
 pub mod Verdicts

@@ -49,7 +49,7 @@ pub record Goes (setup : Setup) (past : List Entry) : Type 0 where
   pub world : IsWorld setup stage past
 
 -- a message that is taken, with the verdict on it
-record Takes (setup : Setup) (payload : List ℕ) (t : ℕ) (dir : Side) (older : List Entry) (m : ClcMessage) (step : ClcStep) : Type 0 where
+pub record Takes (setup : Setup) (payload : List ℕ) (t : ℕ) (dir : Side) (older : List Entry) (m : ClcMessage) (step : ClcStep) : Type 0 where
   pub reply : clc_told setup payload t dir older ≡ step_told (group_on t older) m step
   pub posts : front_posts setup payload (other dir) t older (front payload dir t older) ≡ clc_posts setup payload (other dir) t m older step
 
@@ -62,7 +62,7 @@ front-is setup payload k t dir older at =
     ap (λ b. front_of b (stream payload dir t older) (untaken dir t older)) at.raw
     ∙ ap (λ (ms : List ClcMessage). front_of_posts (head ms)) (at.messages dir)
 
-told-is : (setup : Setup) (payload : List ℕ) (k : Socket) (t : ℕ) (dir : Side) (older : List Entry) → StandsAt setup k t older
+pub told-is : (setup : Setup) (payload : List ℕ) (k : Socket) (t : ℕ) (dir : Side) (older : List Entry) → StandsAt setup k t older
     → clc_told setup payload t dir older ≡ (if expects (end_at k (other dir)) then front_told setup payload (other dir) t older (front_of_posts (head (untaken_at setup k dir))) else Idle)
 told-is setup payload k t dir older at =
     ap (λ e. if expects e then front_told setup payload (other dir) t older (front payload dir t older) else Idle) (end-is setup k t older at (other dir))
@@ -74,9 +74,9 @@ verdict-is setup payload k t x older m step at e =
     ap (λ b. verdict b (end_state x t older) m (lacks setup payload x older)) at.raw
     ∙ (ap (λ s. verdict false s m (lacks setup payload x older)) (end-is setup k t older at x) ∙ e)
 
-takes : (setup : Setup) (payload : List ℕ) (k : Socket) (t : ℕ) (dir : Side) (older : List Entry) (m : ClcMessage) (step : ClcStep) → StandsAt setup k t older
+pub is-taken : (setup : Setup) (payload : List ℕ) (k : Socket) (t : ℕ) (dir : Side) (older : List Entry) (m : ClcMessage) (step : ClcStep) → StandsAt setup k t older
     → expects (end_at k (other dir)) ≡ true → head (untaken_at setup k dir) ≡ Some m → verdict false (end_at k (other dir)) m (lacks setup payload (other dir) older) ≡ step → Takes setup payload t dir older m step
-takes setup payload k t dir older m step at waits first e =
+is-taken setup payload k t dir older m step at waits first e =
     let v = verdict-is setup payload k t (other dir) older m step at e in
     record {
       reply =
@@ -156,35 +156,35 @@ asking-suits t qp s k e h = to-else (s == t) (first_step k == 3) (is_unoffered k
 abbrev StillUnlent : Stage → Stage → List Post → Type 0
 StillUnlent from to posts = (x : Side) → has_not_lent x to ≡ true → (has_not_lent x from ≡ true) × (filter_map (lends x) posts ≡ [])
 
-lent-none : (stage : Stage) (posts : List Post) → filter_map (lends A) posts ≡ [] → filter_map (lends B) posts ≡ [] → StillUnlent stage stage posts
+pub lent-none : (stage : Stage) (posts : List Post) → filter_map (lends A) posts ≡ [] → filter_map (lends B) posts ≡ [] → StillUnlent stage stage posts
 lent-none stage posts a b A e = (e, a)
 lent-none stage posts a b B e = (e, b)
 
 module _ (setup : Setup) (one : IsOneLink setup) (payload : List ℕ) (actor t : ℕ) (older : List Entry) where
-  same : (t == t) ≡ true
+  pub same : (t == t) ≡ true
   same = eq-eqb t t refl
 
   -- an entry with this reply and these posts
-  is-this : (dir : Side) (reply told : Reply) (posts given : List Post) → reply ≡ told → posts ≡ given → Goes setup (entry-of actor (ClcEvent t dir) told given ∷ older) → Goes setup (entry-of actor (ClcEvent t dir) reply posts ∷ older)
+  pub is-this : (dir : Side) (reply told : Reply) (posts given : List Post) → reply ≡ told → posts ≡ given → Goes setup (entry-of actor (ClcEvent t dir) told given ∷ older) → Goes setup (entry-of actor (ClcEvent t dir) reply posts ∷ older)
   is-this dir reply told posts given e f g =
       subst (λ (r : Reply). Goes setup (entry-of actor (ClcEvent t dir) r posts ∷ older)) (sym e) (subst (λ (ps : List Post). Goes setup (entry-of actor (ClcEvent t dir) told ps ∷ older)) (sym f) g)
 
-  goes-quiet : (stage : Stage) (d : Entry) → IsWorld setup stage older → IsQuiet d older → Goes setup (d ∷ older)
+  pub goes-quiet : (stage : Stage) (d : Entry) → IsWorld setup stage older → IsQuiet d older → Goes setup (d ∷ older)
   goes-quiet stage d w q = record { stage = stage; world = world-same setup stage (d ∷ older) older (shows-quiet setup stage d older w.link q) w }
 
-  idle : (stage : Stage) (dir : Side) (reply : Reply) (posts : List Post) → IsWorld setup stage older → reply ≡ clc_told setup payload t dir older → posts ≡ asked setup payload older (ClcEvent t dir) reply
+  pub idle : (stage : Stage) (dir : Side) (reply : Reply) (posts : List Post) → IsWorld setup stage older → reply ≡ clc_told setup payload t dir older → posts ≡ asked setup payload older (ClcEvent t dir) reply
       → clc_told setup payload t dir older ≡ Idle → Goes setup (entry-of actor (ClcEvent t dir) reply posts ∷ older)
   idle stage dir reply posts w r p e =
       let told : reply ≡ Idle = r ∙ e in
       is-this dir reply Idle posts [] told (p ∙ ap (λ (q : Reply). asked setup payload older (ClcEvent t dir) q) told) (goes-quiet stage (entry-of actor (ClcEvent t dir) Idle []) w (quiet-idle-clc actor older t dir))
 
   -- B takes a Proposal
-  on-a-proposal : (stage : Stage) (reply : Reply) (posts : List Post) → IsWorld setup stage older → StandsAt setup Proposed t older → suits stage t Proposed ≡ true
+  pub on-a-proposal : (stage : Stage) (reply : Reply) (posts : List Post) → IsWorld setup stage older → StandsAt setup Proposed t older → suits stage t Proposed ≡ true
       → reply ≡ clc_told setup payload t A older → posts ≡ asked setup payload older (ClcEvent t A) reply → Goes setup (entry-of actor (ClcEvent t A) reply posts ∷ older)
   on-a-proposal stage reply posts w at suit r p = by_verdict (on-proposal setup one payload older stage w.link (proposal setup))
     where
       taken : (step : ClcStep) → on_proposal false (proposal setup) (lacks setup payload B older) ≡ step → Takes setup payload t A older (ProposalMessage (proposal setup)) step
-      taken step e = takes setup payload Proposed t A older (ProposalMessage (proposal setup)) step at refl refl e
+      taken step e = is-taken setup payload Proposed t A older (ProposalMessage (proposal setup)) step at refl refl e
 
       begin : IsWorld setup NoLink older → (q : Place) → IsFree setup payload B older q → on_proposal false (proposal setup) (lacks setup payload B older) ≡ SendAccept true → Goes setup (entry-of actor (ClcEvent t A) reply posts ∷ older)
       begin w2 q free e =
