@@ -101,7 +101,7 @@ pub record AreStill (t : ℕ) (dir : Side) (reply : Reply) (older : List Entry) 
   pub book : (x : Side) (b : List Key) → book_clc x (ClcEvent t dir) reply older b ≡ b
   pub waiting : (link : LinkId) (x : Side) (n : ℕ) → posted_llc link x n 1 posts ≡ []
 
-plus-none : (n : ℕ) → n + 0 ≡ n
+pub plus-none : (n : ℕ) → n + 0 ≡ n
 plus-none n = omega arith
 
 pub link-still : (setup : Setup) (actor t : ℕ) (dir : Side) (reply : Reply) (posts : List Post) (older : List Entry) (stage : Stage) → IsAtStage setup stage older

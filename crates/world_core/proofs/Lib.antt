@@ -2,10 +2,12 @@ pub mod ClcMoves
 pub mod DataPosts
 pub mod Handshakes
 pub mod InHistory
+pub mod Landings
 pub mod LinkMoves
 pub mod Lists
 pub mod Moves
 pub mod Offers
+pub mod Openings
 pub mod QuietEvents
 pub mod Sound
 pub mod TakenAnswers

@@ -153,7 +153,7 @@ pub asking-suits : (t qp s : ℕ) (k : Socket) → (s == t) ≡ false → suits 
 asking-suits t qp s k e h = to-else (s == t) (first_step k == 3) (is_unoffered k) true e (else-of (s == t) (first_step k == 2) (is_unoffered k) true e h)
 
 -- the lendings that an entry begins
-abbrev StillUnlent : Stage → Stage → List Post → Type 0
+abbrev pub StillUnlent : Stage → Stage → List Post → Type 0
 StillUnlent from to posts = (x : Side) → has_not_lent x to ≡ true → (has_not_lent x from ≡ true) × (filter_map (lends x) posts ≡ [])
 
 pub lent-none : (stage : Stage) (posts : List Post) → filter_map (lends A) posts ≡ [] → filter_map (lends B) posts ≡ [] → StillUnlent stage stage posts
