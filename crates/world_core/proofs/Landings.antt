@@ -167,7 +167,7 @@ module _ (setup : Setup) (stage : Stage) (actor : ℕ) (older : List Entry) (at 
           subst (λ (l : LinkId). filter_map llc_in (drop (if same_side x dir && (l.slot == 1) then 1 else 0) (unlanded l x older)) ≡ llc_waiting l x older) (sym is) (on-the-link x dir first)
 
   -- it leaves, and what waits stays the same on all other links
-  elsewhere-stays : (link : LinkId) (x : Side) (n : ℕ) → same_link link the_link ≡ false → filter_map llc_in (drop (if_latest link older n) (unlanded link x older)) ≡ []
+  pub elsewhere-stays : (link : LinkId) (x : Side) (n : ℕ) → same_link link the_link ≡ false → filter_map llc_in (drop (if_latest link older n) (unlanded link x older)) ≡ []
   elsewhere-stays link x n apart = by_latest (is_latest link older) refl ∙ at.elsewhere link x apart
     where
       by_latest : (b : Bool) → is_latest link older ≡ b → filter_map llc_in (drop (if b then n else 0) (unlanded link x older)) ≡ llc_waiting link x older

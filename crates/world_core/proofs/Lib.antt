@@ -1,4 +1,5 @@
 pub mod ClcMoves
+pub mod Confirmations
 pub mod DataPosts
 pub mod Handshakes
 pub mod InHistory

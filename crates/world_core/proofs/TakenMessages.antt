@@ -135,11 +135,11 @@ unoffered-alike (LiveAtA t qp) s k j f u e = ap (λ (n : ℕ). if s == t then n 
 unoffered-alike (LiveAtBoth t) s k j f u e = ap (λ (n : ℕ). if s == t then n == 5 else n == 0) (sym f) ∙ e
 
 -- a test that failed leaves its other branch
-else-of : {X : Type 0} (b : Bool) (x y z : X) → b ≡ false → (if b then x else y) ≡ z → y ≡ z
+pub else-of : {X : Type 0} (b : Bool) (x y z : X) → b ≡ false → (if b then x else y) ≡ z → y ≡ z
 else-of true x y z e h = cc
 else-of false x y z e h = h
 
-to-else : {X : Type 0} (b : Bool) (x y z : X) → b ≡ false → y ≡ z → (if b then x else y) ≡ z
+pub to-else : {X : Type 0} (b : Bool) (x y z : X) → b ≡ false → y ≡ z → (if b then x else y) ≡ z
 to-else true x y z e h = cc
 to-else false x y z e h = h
 
