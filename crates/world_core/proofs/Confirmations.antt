@@ -99,19 +99,19 @@ to-then true x y z e h = h
 to-then false x y z e h = cc
 
 module _ (setup : Setup) (actor t qp : ℕ) (older : List Entry) (c : Placed) where
-  abbrev request : LlcMessage
+  abbrev pub request : LlcMessage
   request = confirm_link setup B false the_link qp
 
-  abbrev answer : ℕ → LlcMessage
+  abbrev pub answer : ℕ → LlcMessage
   answer n = confirm_link setup A true the_link n
 
   -- what A does
-  act-a : IsAtStage setup (Asking t qp) older → c.post ≡ Llc B the_link request → act_of A (Some c.post) older ≡ Some (record { link = the_link; message = request; step = Live true true })
+  pub act-a : IsAtStage setup (Asking t qp) older → c.post ≡ Llc B the_link request → act_of A (Some c.post) older ≡ Some (record { link = the_link; message = request; step = Live true true })
   act-a at is =
       ap (λ p. act_of A (Some p) older) is
       ∙ ap (λ (f : Fabric). let a : Act = record { link = the_link; message = request; step = on_confirm_link 1 f.a.flow.link } in Some a) at.fabric_is
 
-  act-b : IsAtStage setup (LiveAtA t qp) older → c.post ≡ Llc A the_link (answer qp) → act_of B (Some c.post) older ≡ Some (record { link = the_link; message = answer qp; step = Live false true })
+  pub act-b : IsAtStage setup (LiveAtA t qp) older → c.post ≡ Llc A the_link (answer qp) → act_of B (Some c.post) older ≡ Some (record { link = the_link; message = answer qp; step = Live false true })
   act-b at is =
       ap (λ p. act_of B (Some p) older) is
       ∙ ap (λ (f : Fabric). let a : Act = record { link = the_link; message = answer qp; step = on_confirm_link_reply f.b.flow.link } in Some a) at.fabric_is

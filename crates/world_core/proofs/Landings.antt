@@ -109,7 +109,7 @@ lands-none (Cdc from link m) e x past f = refl
 lands-none (Llc from link m) e x past f = cc
 lands-none (Clc from s link m) e x past f = refl
 
-acts-none : (p : Post) → llc_of p ≡ None → (x : Side) (past : List Entry) → act_of x (Some p) past ≡ None
+pub acts-none : (p : Post) → llc_of p ≡ None → (x : Side) (past : List Entry) → act_of x (Some p) past ≡ None
 acts-none (Write from link key address len) e x past = refl
 acts-none (Cdc from link m) e x past = refl
 acts-none (Llc from link m) e x past = cc
@@ -140,7 +140,7 @@ first-llc (d ∷ cs) c p q ps e f g =
     rest : p ∷ filter_map llc_in cs ≡ q ∷ ps → filter_map llc_in cs ≡ ps
     rest e = cc
 
-no-llc-first : (cs : List Placed) (c : Placed) (p : Post) → head cs ≡ Some c → llc_of c.post ≡ Some p → filter_map llc_in cs ≡ [] → ⊥
+pub no-llc-first : (cs : List Placed) (c : Placed) (p : Post) → head cs ≡ Some c → llc_of c.post ≡ Some p → filter_map llc_in cs ≡ [] → ⊥
 no-llc-first [] c p e f g = cc
 no-llc-first (d ∷ cs) c p e f g =
     let h : llc_of d.post ≡ Some p = ap (λ (r : Placed). llc_of r.post) (is d c e) ∙ f in

@@ -9,6 +9,7 @@ pub mod Lists
 pub mod Moves
 pub mod Offers
 pub mod Openings
+pub mod PlayedWorlds
 pub mod QuietEvents
 pub mod Sound
 pub mod TakenAnswers
