@@ -1,6 +1,16 @@
+pub mod ClcMoves
+pub mod Confirmations
 pub mod DataPosts
+pub mod Handshakes
+pub mod InHistory
+pub mod Landings
+pub mod LinkMoves
 pub mod Lists
 pub mod Moves
+pub mod Offers
+pub mod Openings
+pub mod PlayedWorlds
+pub mod QuietEvents
 pub mod Sound
 pub mod OpenEnds
 pub mod Growth
@@ -23,3 +33,6 @@ pub mod Quiet
 pub mod Senders
 pub mod Batches
 pub mod OneSender
+pub mod TakenAnswers
+pub mod TakenMessages
+pub mod Verdicts

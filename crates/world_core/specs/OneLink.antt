@@ -1,5 +1,6 @@
 -- The one link of a world of one link, and how far it has come after a history.
 -- A reader learns here the steps of its making, and what each side holds at each of them: group, link, flow, keys, messages under way.
+use Rattle.std.specs.Prelude.{Bool}
 use Rattle.std.specs.Prelude.{◌≡◌, ℕ, true, false, List, [], ◌∷◌, filter, filter_map, Option, Some, None}
 use Rattle.smc_num.specs.declared.Side.{Side}
 use Rattle.smc_num.specs.declared.Side.TheVariants.{A, B}
@@ -35,6 +36,12 @@ pub data Stage : Type 0 where
   Asking : ℕ → ℕ → Stage
   LiveAtA : ℕ → ℕ → Stage
   LiveAtBoth : ℕ → Stage
+
+-- whether the link is made
+abbrev pub is_made : Stage → Bool
+is_made NoLink = false
+is_made (Begun s) = false
+is_made _ = true
 
 -- the link at a side, with its phase
 abbrev pub the_known : LinkPhase → Known
