@@ -33,6 +33,7 @@ pub mod Quiet
 pub mod Senders
 pub mod Batches
 pub mod OneSender
+pub mod NewOffers
 pub mod TakenAnswers
 pub mod TakenMessages
 pub mod Verdicts
