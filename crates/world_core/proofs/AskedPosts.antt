@@ -80,7 +80,7 @@ append-llc : (ps qs : List Post) → EachPost IsLlc ps → EachPost IsLlc qs →
 append-llc [] qs p q = q
 append-llc (post ∷ ps) qs p q = (p.0, append-llc ps qs p.1 q)
 
-either-llc : (b : Bool) (ps qs : List Post) → EachPost IsLlc ps → EachPost IsLlc qs → EachPost IsLlc (if b then ps else qs)
+pub either-llc : (b : Bool) (ps qs : List Post) → EachPost IsLlc ps → EachPost IsLlc qs → EachPost IsLlc (if b then ps else qs)
 either-llc true ps qs p q = p
 either-llc false ps qs p q = q
 

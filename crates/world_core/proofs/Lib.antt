@@ -34,6 +34,7 @@ pub mod Senders
 pub mod Batches
 pub mod OneSender
 pub mod NewOffers
+pub mod Shaken
 pub mod TakenAnswers
 pub mod TakenMessages
 pub mod Verdicts

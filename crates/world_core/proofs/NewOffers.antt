@@ -6,7 +6,7 @@ use Rattle.std.proofs.lemmas.List.Elements.{filter_map-append}
 use Rattle.smc_num.specs.declared.Side.{Side}
 use Rattle.smc_num.specs.declared.Side.TheVariants.{A, B}
 use Rattle.smc_num.specs.declared.LinkId.{LinkId}
-use Rattle.smc_num.specs.Names.{other, same_side, head}
+use Rattle.smc_num.specs.Names.{other, same_side, head, no_link}
 use Rattle.clc_wire.specs.declared.offer.Offer.{Offer}
 use Rattle.clc_wire.specs.declared.proposal.Proposal.{Proposal}
 use Rattle.clc_wire.specs.declared.message.ClcMessage.{ClcMessage}
@@ -43,7 +43,7 @@ use Rattle.world_core.specs.Played.{IsBuilt}
 use Rattle.world_core.specs.Sockets.{Socket, Unopened, Fallen, Proposed, Refused, FirstAccepted, FirstConfirmed, AwaitsLink, FirstUpAtA, FirstUp, Accepted, AcceptRefused, AcceptFallen, Confirmed, Up, StandsAt, end_at, offered_at}
 use Rattle.world_core.specs.WireSteps.{EachPost}
 use Rattle.world_core.proofs.TakenMessages.{end-is}
-use Rattle.world_core.proofs.AskedPosts.{IsLlc, of-act}
+use Rattle.world_core.proofs.AskedPosts.{IsLlc, either-llc, of-act}
 
 -- which states make a verdict an offer
 abbrev accepts : ClcStep → Bool
@@ -166,6 +166,11 @@ answer-at (Confirmed o p) A e = absurd (true≢false (sym e))
 answer-at (Confirmed o p) B e = absurd (true≢false (sym e))
 answer-at (Up o p) x e = absurd (true≢false (sym e))
 
+-- where a socket stands
+pub record HasSocketAt (setup : Setup) (s : ℕ) (past : List Entry) : Type 0 where
+  pub at : Socket
+  pub stands : StandsAt setup at s past
+
 -- what posts offer and lend
 pub record NoOffers (ps : List Post) : Type 0 where
   pub offers : (x : Side) (s : ℕ) → filter_map (offer_in x s) ps ≡ []
@@ -199,3 +204,125 @@ llc-none ps p = record { offers = λ x s. by x s ps p }
 one-of : (b : Bool) (link : LinkId) (o : Offer) → cons_option (offered_if b link o) [] ≡ (if b then record { link = link; offer = o } ∷ [] else [])
 one-of true link o = refl
 one-of false link o = refl
+
+sides-differ : A ≡ B → ⊥
+sides-differ e = true≢false (ap (λ x. same_side A x) e)
+
+module _ (setup : Setup) (payload : List ℕ) (past : List Entry) (t : ℕ) (known : t < setup.sockets) (k : Socket) (at : StandsAt setup k t past) where
+  state-is : (test : EndState → Bool) (y : Side) → test (end_state y t past) ≡ true → test (end_at k y) ≡ true
+  state-is test y e = ap (λ s. test s) (sym (end-is setup k t past at y)) ∙ e
+
+  accept-offers : (link : LinkId) (first : Bool) → waits_proposal (end_state B t past) ≡ true → OneOffer setup (ClcEvent t A) past (Clc B t (Some link) (AcceptMessage (new_offer setup payload B first link past)) ∷ [])
+  accept-offers link first w = let q = proposal-at k B (state-is waits_proposal B w) in record {
+    y = B;
+    t = t;
+    offer = record { link = link; offer = new_offer setup payload B first link past };
+    event_is = refl;
+    token = refl;
+    known = known;
+    new = at.offer B ∙ q.1;
+    offers = λ x s. by x s;
+    lends_one = refl;
+  }
+    where
+      by : (x : Side) (s : ℕ) → filter_map (offer_in x s) (Clc B t (Some link) (AcceptMessage (new_offer setup payload B first link past)) ∷ []) ≡ (if same_side x B && (s == t) then record { link = link; offer = new_offer setup payload B first link past } ∷ [] else [])
+      by A s = refl
+      by B s = one-of (s == t) link (new_offer setup payload B first link past)
+
+  confirm-offers : (link : LinkId) (first : Bool) → waits_answer (end_state A t past) ≡ true → OneOffer setup (ClcEvent t B) past (Clc A t (Some link) (ConfirmMessage (new_offer setup payload A first link past)) ∷ [])
+  confirm-offers link first w = let q = answer-at k A (state-is waits_answer A w) in record {
+    y = A;
+    t = t;
+    offer = record { link = link; offer = new_offer setup payload A first link past };
+    event_is = refl;
+    token = refl;
+    known = known;
+    new = at.offer A ∙ q.1;
+    offers = λ x s. by x s;
+    lends_one = refl;
+  }
+    where
+      by : (x : Side) (s : ℕ) → filter_map (offer_in x s) (Clc A t (Some link) (ConfirmMessage (new_offer setup payload A first link past)) ∷ []) ≡ (if same_side x A && (s == t) then record { link = link; offer = new_offer setup payload A first link past } ∷ [] else [])
+      by A s = one-of (s == t) link (new_offer setup payload A first link past)
+      by B s = refl
+
+  abbrev Offers : Event → List Post → Type 0
+  Offers event ps = NoOffers ps ⊎ OneOffer setup event past ps
+
+  none : (event : Event) → Offers event []
+  none event = inl (record { offers = λ x s. refl })
+
+  -- a post without an offer
+  refuses-none : (event : Event) (from : Side) (s : ℕ) (m : ClcMessage) → Offers event (Clc from s None m ∷ [])
+  refuses-none event A s m = inl (record { offers = λ x r. by x r })
+    where
+      by : (x : Side) (r : ℕ) → filter_map (offer_in x r) (Clc A s None m ∷ []) ≡ []
+      by A r = refl
+      by B r = refl
+  refuses-none event B s m = inl (record { offers = λ x r. by x r })
+    where
+      by : (x : Side) (r : ℕ) → filter_map (offer_in x r) (Clc B s None m ∷ []) ≡ []
+      by A r = refl
+      by B r = refl
+
+  ready-none : (event : Event) (m : ClcMessage) → Offers event (ready_posts setup t m past)
+  ready-none event (ConfirmMessage o) = inl (llc-none _ (either-llc o.first _ _ (tt, tt) tt))
+  ready-none event (ProposalMessage p) = none event
+  ready-none event (AcceptMessage o) = none event
+  ready-none event (DeclineMessage r) = none event
+
+  step-offers : (dir : Side) (m : ClcMessage) (step : ClcStep) → clc_step setup payload (other dir) t m past ≡ step → Offers (ClcEvent t dir) (clc_posts setup payload (other dir) t m past step)
+  step-offers A m (SendAccept first) e =
+      let w = accepts-in (is_raw t past) (end_state B t past) m (lacks setup payload B past) (ap (λ s. accepts s) e) in
+      accept-by first w
+    where
+      accept-by : (first : Bool) → waits_proposal (end_state B t past) ≡ true → Offers (ClcEvent t A) (clc_posts setup payload B t m past (SendAccept first))
+      accept-by true w = inr (accept-offers (first_link setup past) true w)
+      accept-by false w = inr (accept-offers (fewest setup payload past) false w)
+  step-offers B m (SendAccept first) e =
+      let w = accepts-in (is_raw t past) (end_state A t past) m (lacks setup payload A past) (ap (λ s. accepts s) e) in
+      let q = proposal-at k A (state-is waits_proposal A w) in absurd (sides-differ q.0)
+  step-offers B m (SendConfirm first) e =
+      let w = confirms-in (is_raw t past) (end_state A t past) m (lacks setup payload A past) (ap (λ s. confirms s) e) in
+      inr (confirm-offers (unwrap_or (named_link t past) no_link) first w)
+  step-offers A m (SendConfirm first) e =
+      let w = confirms-in (is_raw t past) (end_state B t past) m (lacks setup payload B past) (ap (λ s. confirms s) e) in
+      let q = answer-at k B (state-is waits_answer B w) in absurd (sides-differ (sym q.0))
+  step-offers dir m AskKey e = inl (llc-none _ (tt, tt))
+  step-offers dir m (Wait hold) e = none (ClcEvent t dir)
+  step-offers dir m (Decline lack) e = refuses-none (ClcEvent t dir) (other dir) t _
+  step-offers dir m Fell e = none (ClcEvent t dir)
+  step-offers dir m Ready e = ready-none (ClcEvent t dir) m
+  step-offers dir m Lost e = none (ClcEvent t dir)
+  step-offers dir m (Wrong kind) e = none (ClcEvent t dir)
+
+  front-offers : (dir : Side) (f : Front) → Offers (ClcEvent t dir) (front_posts setup payload (other dir) t past f)
+  front-offers dir NoMessage = none (ClcEvent t dir)
+  front-offers dir (Faulty fault) = none (ClcEvent t dir)
+  front-offers dir (Whole m len) = step-offers dir m (clc_step setup payload (other dir) t m past) refl
+
+  clc-offers : (dir : Side) (reply : Reply) → Offers (ClcEvent t dir) (asked setup payload past (ClcEvent t dir) reply)
+  clc-offers dir Idle = none (ClcEvent t dir)
+  clc-offers dir reply = front-offers dir (front payload dir t past)
+
+no-offers-in : NoOffers []
+no-offers-in = record { offers = λ x s. refl }
+
+open-offers : (setup : Setup) (payload : List ℕ) (past : List Entry) (s : ℕ) (reply : Reply) → NoOffers (asked setup payload past (Open s) reply)
+open-offers setup payload past s Opened = record { offers = λ x r. by x r }
+  where
+    by : (x : Side) (r : ℕ) → filter_map (offer_in x r) (asked setup payload past (Open s) Opened) ≡ []
+    by A r = refl
+    by B r = refl
+open-offers setup payload past s _ = no-offers-in
+
+-- what an event makes handshake and flows offer: nothing, or once
+pub asked-offers : (setup : Setup) (payload : List ℕ) (past : List Entry) → ((s : ℕ) → HasSocketAt setup s past) → (event : Event) (reply : Reply) → IsBuilt setup (length payload) event →
+    NoOffers (asked setup payload past event reply) ⊎ OneOffer setup event past (asked setup payload past event reply)
+asked-offers setup payload past h (Open s) reply b = inl (open-offers setup payload past s reply)
+asked-offers setup payload past h (ClcEvent t dir) reply b = let q = h t in clc-offers setup payload past t b q.at q.stands dir reply
+asked-offers setup payload past h (Write end from len) reply b = inl no-offers-in
+asked-offers setup payload past h (Read end len) reply b = inl no-offers-in
+asked-offers setup payload past h (Deliver slot dir) reply b = inl (llc-none _ (of-act setup (other dir) past (act_of (other dir) (option_map (λ c. c.post) (landing slot dir past)) past)))
+asked-offers setup payload past h (Complete slot dir) reply b = inl no-offers-in
+asked-offers setup payload past h _ reply b = absurd b
