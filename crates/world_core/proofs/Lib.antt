@@ -35,6 +35,8 @@ pub mod Batches
 pub mod OneSender
 pub mod NewOffers
 pub mod Shaken
+pub mod Tokens
+pub mod Groups
 pub mod TakenAnswers
 pub mod TakenMessages
 pub mod Verdicts

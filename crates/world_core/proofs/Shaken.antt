@@ -52,10 +52,10 @@ only-link setup stage past at = by (latest-at stage)
 some-link : (o r : Offered) → Some o ≡ Some r → o.link ≡ the_link → r.link ≡ the_link
 some-link o r e l = sym (ap (λ (q : Option Offered). (unwrap_or q o).link) e) ∙ l
 
-not-none : (r : Offered) → None ≡ Some r → ⊥
+pub not-none : (r : Offered) → None ≡ Some r → ⊥
 not-none r e = true≢false (sym (ap (λ (q : Option Offered). is_some q) e))
 
-offer-link : (k : Socket) (x : Side) (r : Offered) → offered_at k x ≡ Some r → r.link ≡ the_link
+pub offer-link : (k : Socket) (x : Side) (r : Offered) → offered_at k x ≡ Some r → r.link ≡ the_link
 offer-link (FirstAccepted o) B r e = some-link _ r e refl
 offer-link (FirstConfirmed o p) A r e = some-link _ r e refl
 offer-link (FirstConfirmed o p) B r e = some-link _ r e refl
@@ -81,10 +81,10 @@ offer-link Fallen x r e = absurd (not-none r e)
 offer-link Proposed x r e = absurd (not-none r e)
 offer-link (Refused q) x r e = absurd (not-none r e)
 
-is-none : (o : Offered) → Some o ≡ None → ⊥
+pub is-none : (o : Offered) → Some o ≡ None → ⊥
 is-none o e = true≢false (ap (λ (q : Option Offered). is_some q) e)
 
-offer-answer : (k : Socket) → offered_at k B ≡ None → offered_at k A ≡ None
+pub offer-answer : (k : Socket) → offered_at k B ≡ None → offered_at k A ≡ None
 offer-answer Unopened e = refl
 offer-answer Fallen e = refl
 offer-answer Proposed e = refl
@@ -101,7 +101,7 @@ offer-answer (Confirmed o p) e = absurd (is-none _ e)
 offer-answer (Up o p) e = absurd (is-none _ e)
 
 -- an end that is up at B has an offer of A
-up-answered : (k : Socket) → up_at k B ≡ true → is_some (offered_at k A) ≡ true
+pub up-answered : (k : Socket) → up_at k B ≡ true → is_some (offered_at k A) ≡ true
 up-answered (FirstUp o p) e = refl
 up-answered (Up o p) e = refl
 up-answered Unopened e = absurd (true≢false (sym e))
@@ -119,7 +119,7 @@ up-answered (Confirmed o p) e = absurd (true≢false (sym e))
 
 -- what an entry offers is what handshake and flows offer with it
 module _ (setup : Setup) (payload : List ℕ) (e : Entry) (past : List Entry) (before : ℕ) (made : IsMade setup payload past before e) where
-  abbrev D : Entry
+  abbrev pub D : Entry
   D = draft setup payload past before e.event
 
   entry-offers : (x : Side) (s : ℕ) → filter_map (offer_in x s) e.posts ≡ filter_map (offer_in x s) D.posts
@@ -128,10 +128,10 @@ module _ (setup : Setup) (payload : List ℕ) (e : Entry) (past : List Entry) (b
   offered-then : (x : Side) (s : ℕ) → offered x s (e ∷ past) ≡ option_or (head (filter_map (offer_in x s) D.posts)) (offered x s past)
   offered-then x s = ap (λ os. option_or (head os) (offered x s past)) (entry-offers x s)
 
-  lendings-grow : (x : Side) → length (lendings x (e ∷ past)) ≡ length (filter_map (lends x) e.posts) + length (lendings x past)
+  pub lendings-grow : (x : Side) → length (lendings x (e ∷ past)) ≡ length (filter_map (lends x) e.posts) + length (lendings x past)
   lendings-grow x = length-append (filter_map (lends x) e.posts) (lendings x past)
 
-  lends-more : (x : Side) → length (filter_map (lends x) D.posts) ≤ length (filter_map (lends x) e.posts)
+  pub lends-more : (x : Side) → length (filter_map (lends x) D.posts) ≤ length (filter_map (lends x) e.posts)
   lends-more x =
       let q : filter_map (lends x) e.posts ≡ filter_map (lends x) D.posts ++ filter_map (lends x) (connection_posts setup payload D past) =
           ap (λ ps. filter_map (lends x) ps) made.posts ∙ filter_map-append (lends x) D.posts (connection_posts setup payload D past) in
@@ -140,10 +140,10 @@ module _ (setup : Setup) (payload : List ℕ) (e : Entry) (past : List Entry) (b
       omega (arith, n)
 
   -- nothing offered, or once
-  abbrev Choice : Type 0
+  abbrev pub Choice : Type 0
   Choice = NoOffers D.posts ⊎ OneOffer setup e.event past D.posts
 
-  offered-none : NoOffers D.posts → (x : Side) (s : ℕ) → offered x s (e ∷ past) ≡ offered x s past
+  pub offered-none : NoOffers D.posts → (x : Side) (s : ℕ) → offered x s (e ∷ past) ≡ offered x s past
   offered-none c x s = offered-then x s ∙ ap (λ os. option_or (head os) (offered x s past)) (c.offers x s)
 
   abbrev if_there : Bool → Offered → Option Offered → Option Offered
@@ -163,7 +163,7 @@ module _ (setup : Setup) (payload : List ℕ) (e : Entry) (past : List Entry) (b
   and-both false b f = absurd (true≢false (sym f))
 
   -- an offer that was made stays
-  kept-by : Choice → (x : Side) (s : ℕ) (o : Offered) → offered x s past ≡ Some o → offered x s (e ∷ past) ≡ Some o
+  pub kept-by : Choice → (x : Side) (s : ℕ) (o : Offered) → offered x s past ≡ Some o → offered x s (e ∷ past) ≡ Some o
   kept-by (inl c) x s o f = offered-none c x s ∙ f
   kept-by (inr c) x s o f = offered-one c x s ∙ by (same_side x c.y && (s == c.t)) refl
     where
@@ -175,7 +175,7 @@ module _ (setup : Setup) (payload : List ℕ) (e : Entry) (past : List Entry) (b
           absurd (is-none o (sym f ∙ same ∙ c.new))
 
   -- an offer after an entry is an old one, or the new one
-  old-or-new : (c : OneOffer setup e.event past D.posts) (x : Side) (s : ℕ) (o : Offered) → offered x s (e ∷ past) ≡ Some o → (offered x s past ≡ Some o) ⊎ ((x ≡ c.y) × ((s ≡ c.t) × (c.offer ≡ o)))
+  pub old-or-new : (c : OneOffer setup e.event past D.posts) (x : Side) (s : ℕ) (o : Offered) → offered x s (e ∷ past) ≡ Some o → (offered x s past ≡ Some o) ⊎ ((x ≡ c.y) × ((s ≡ c.t) × (c.offer ≡ o)))
   old-or-new c x s o f = by (same_side x c.y && (s == c.t)) refl
     where
       by : (b : Bool) → (same_side x c.y && (s == c.t)) ≡ b → (offered x s past ≡ Some o) ⊎ ((x ≡ c.y) × ((s ≡ c.t) × (c.offer ≡ o)))
