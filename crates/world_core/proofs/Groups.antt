@@ -124,3 +124,49 @@ module _ (setup : Setup) (from to : Stage) (e : Entry) (past : List Entry) (was 
 
   back : (t n : ℕ) → ((k : Socket) → suits from t k ≡ true → (first_step k == n) ≡ true) → 2 ≤ n → ((k : Socket) → suits to t k ≡ true → is_some (offered_at k A) ≡ false) → ⊥
   back t n f l g = true≢false (sym (still t (had t n f l)) ∙ has-none t g)
+
+-- where B alone has begun, or nothing has, A has offered nowhere
+begun-none : (r t : ℕ) (k : Socket) → suits (Begun r) t k ≡ true → is_some (offered_at k A) ≡ false
+begun-none r t k e = either (t == r) (first_step k == 1) (is_unoffered k) (is_some (offered_at k A)) e (begun-a k) (unoffered-a k)
+
+own-step : (t n : ℕ) (k : Socket) (q : Bool) → (if t == t then first_step k == n else q) ≡ true → (first_step k == n) ≡ true
+own-step t n k q e = choose (t == t) (first_step k == n) q e (eq-eqb t t refl)
+
+-- A's group, by its offer
+a-by : (from to : Stage) → ((t n : ℕ) → ((k : Socket) → suits from t k ≡ true → (first_step k == n) ≡ true) → 2 ≤ n → ((k : Socket) → suits to t k ≡ true → is_some (offered_at k A) ≡ false) → ⊥) →
+    ((peer A (fabric_at from)).group ≡ 0) ⊎ ((peer A (fabric_at from)).group ≡ (peer A (fabric_at to)).group)
+a-by NoLink to f = inl refl
+a-by (Begun s) to f = inl refl
+a-by (Made t) NoLink f = absurd (f t 2 (λ k e. own-step t 2 k _ e) (omega arith) (λ k e. unoffered-a k e))
+a-by (Made t) (Begun r) f = absurd (f t 2 (λ k e. own-step t 2 k _ e) (omega arith) (λ k e. begun-none r t k e))
+a-by (Asking t qp) NoLink f = absurd (f t 3 (λ k e. own-step t 3 k _ e) (omega arith) (λ k e. unoffered-a k e))
+a-by (Asking t qp) (Begun r) f = absurd (f t 3 (λ k e. own-step t 3 k _ e) (omega arith) (λ k e. begun-none r t k e))
+a-by (LiveAtA t qp) NoLink f = absurd (f t 4 (λ k e. own-step t 4 k _ e) (omega arith) (λ k e. unoffered-a k e))
+a-by (LiveAtA t qp) (Begun r) f = absurd (f t 4 (λ k e. own-step t 4 k _ e) (omega arith) (λ k e. begun-none r t k e))
+a-by (LiveAtBoth t) NoLink f = absurd (f t 5 (λ k e. own-step t 5 k _ e) (omega arith) (λ k e. unoffered-a k e))
+a-by (LiveAtBoth t) (Begun r) f = absurd (f t 5 (λ k e. own-step t 5 k _ e) (omega arith) (λ k e. begun-none r t k e))
+a-by (Made t) (Made r) f = inr refl
+a-by (Made t) (Asking r qp) f = inr refl
+a-by (Made t) (LiveAtA r qp) f = inr refl
+a-by (Made t) (LiveAtBoth r) f = inr refl
+a-by (Asking t q) (Made r) f = inr refl
+a-by (Asking t q) (Asking r qp) f = inr refl
+a-by (Asking t q) (LiveAtA r qp) f = inr refl
+a-by (Asking t q) (LiveAtBoth r) f = inr refl
+a-by (LiveAtA t q) (Made r) f = inr refl
+a-by (LiveAtA t q) (Asking r qp) f = inr refl
+a-by (LiveAtA t q) (LiveAtA r qp) f = inr refl
+a-by (LiveAtA t q) (LiveAtBoth r) f = inr refl
+a-by (LiveAtBoth t) (Made r) f = inr refl
+a-by (LiveAtBoth t) (Asking r qp) f = inr refl
+a-by (LiveAtBoth t) (LiveAtA r qp) f = inr refl
+a-by (LiveAtBoth t) (LiveAtBoth r) f = inr refl
+
+-- no group ends with an entry
+pub no-group-ends : (setup : Setup) (from to : Stage) (e : Entry) (past : List Entry) → IsWorld setup from past → IsWorld setup to (e ∷ past) → ((x : Side) (s : ℕ) (o : Offered) → offered x s past ≡ Some o → offered x s (e ∷ past) ≡ Some o) → (x : Side) (group : ℕ) →
+    loses_group_with x group e past ≡ false
+no-group-ends setup from to e past was now kept = keeps-group setup e past from to was.link now.link keeps
+  where
+    keeps : KeepsGroups from to
+    keeps A = a-by from to (back setup from to e past was now kept)
+    keeps B = let at = was.link in let later = now.link in b-keeps from to (length (filter begins_group_in e.posts)) (ap (λ n. n + length (filter begins_group_in e.posts)) (sym at.groups) ∙ later.groups)

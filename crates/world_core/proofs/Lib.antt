@@ -37,6 +37,8 @@ pub mod NewOffers
 pub mod Shaken
 pub mod Tokens
 pub mod Groups
+pub mod Rising
+pub mod Handshaken
 pub mod TakenAnswers
 pub mod TakenMessages
 pub mod Verdicts
