@@ -1,44 +1,42 @@
 -- Wires and pipes go on agreeing with each entry of a played history.
-use Rattle.std.proofs.Common.{◌≡◌, ◌∙◌, ◌==◌, ◌⊎◌, inl, inr, ℕ, ◌+◌, ◌-◌, ◌≤◌, ◌<◌, Bool, true, false, if◌then◌else◌, List, [], ◌∷◌, ◌++◌, length, take, drop, map, filter_map, refl, ap, sym, subst, ◌&&◌, true≢false, arith, append-nil, append_assoc, suc, zero, not}
-use Rattle.std.specs.Prelude.{Option, Some, None, is_some, unwrap_or}
+use Rattle.std.proofs.Common.{◌≡◌, ◌∙◌, ◌==◌, inl, inr, ℕ, true, if◌then◌else◌, List, [], ◌∷◌, ◌++◌, length, drop, map, filter_map, refl, ap, sym, subst, true≢false, suc, zero, not}
+use Rattle.std.specs.Prelude.{Option, Some, None, is_some}
 use Rattle.std.specs.List.{cons_option}
 use Rattle.std.proofs.lemmas.List.Elements.{filter_map-append}
-use Rattle.std.proofs.Math.ListN.{drop_of_length-le}
 use Rattle.smc_num.specs.declared.Side.{Side}
 use Rattle.smc_num.specs.declared.Side.TheVariants.{A, B}
 use Rattle.smc_num.specs.Names.{other, head}
 use Rattle.cdc_wire.specs.declared.CdcMessage.{CdcMessage}
 use Rattle.pipe_model.specs.declared.setup.Setup.{Setup}
-use Rattle.pipe_model.specs.declared.post.Post.{Post}
 use Rattle.pipe_model.specs.declared.entry.Entry.{Entry}
 use Rattle.pipe_model.specs.declared.sent.Sent.{Sent}
 use Rattle.pipe_model.specs.Words.{element_size}
-use Rattle.pipe_model.specs.History.{Offered, offered, post_at}
+use Rattle.pipe_model.specs.History.{Offered, offered}
 use Rattle.pipe_model.specs.Fabric.{fabric, after}
 use Rattle.pipe_model.specs.Wires.{unlanded, uncompleted}
-use Rattle.pipe_model.specs.Ends.{Half, to_land, to_complete}
-use Rattle.pipe_model.specs.Pipe.{Terms, Item, Fate, GroupEnd, Up, Calls, Lands, Completes, half, pipe, posts_of, sent_since}
+use Rattle.pipe_model.specs.Ends.{Half}
+use Rattle.pipe_model.specs.Pipe.{Terms, Item, Fate, GroupEnd, Up, Calls, Lands, Completes, half, pipe, posts_of}
 use Rattle.pipe_model.specs.Parts.{EachOf, IsMarked}
-use Rattle.pipe_model.specs.Connections.{group_on, is_up, comes_up, deeds, if_own, items, part}
-use Rattle.pipe_model.specs.Lending.{terms_of, pipe_of}
+use Rattle.pipe_model.specs.Connections.{group_on, deeds, if_own, items, part}
+use Rattle.pipe_model.specs.Lending.{terms_of}
 use Rattle.pipe_model.specs.Posts.{is_offered, connection_posts}
-use Rattle.pipe_model.specs.Lawful.{draft, asked}
+use Rattle.pipe_model.specs.Lawful.{draft}
 use Rattle.pipe_model.proofs.Facts.{is-marked}
 use Rattle.world_core.specs.Played.{IsMade, IsPlayed}
 use Rattle.world_core.specs.OneLink.{the_link}
-use Rattle.world_core.specs.Wired.{cdc_under, cdcs, message, returning, IsCarried, HasGone, EachItem, EachUpOn, passes_by, keeps_open, IsOnLink}
-use Rattle.world_core.specs.WireSteps.{Stays, LandsNow, CompletesNow, Way, IsCdcOn, EachPost}
+use Rattle.world_core.specs.Wired.{cdc_under, cdcs, message, IsCarried, HasGone, EachItem, passes_by, keeps_open, IsOnLink}
+use Rattle.world_core.specs.WireSteps.{LandsNow, CompletesNow, Way, IsCdcOn, EachPost}
 use Rattle.world_core.specs.Agreement.{IsOnlyLink, HasOffers, GoesOn, IsShaken, IsElse, CarriesNoStranger, CanBe, Agree}
 use Rattle.world_core.proofs.DataPosts.{unseen-after, connections-data}
 use Rattle.world_core.proofs.Growth.{since-more}
-use Rattle.world_core.proofs.Idle.{all-passed-by, idle, on-link}
+use Rattle.world_core.proofs.Idle.{all-passed-by, on-link}
 use Rattle.world_core.proofs.Carrying.{stays-unlanded, stays-uncompleted, lands-unlanded, lands-uncompleted, completes-unlanded, completes-uncompleted}
 use Rattle.world_core.proofs.Carried.{carried-stays, carried-passes, carried-lands, carried-leaves, carried-completes, next-lands, next-completes, some-left}
 use Rattle.world_core.proofs.PipePosts.{given, nothing-strange, own-posted, on-append as posts-append, pipes-on}
 use Rattle.world_core.proofs.Places.{unlanded-stand, uncompleted-stand, first-stands}
 use Rattle.world_core.proofs.Ways.{way}
 use Rattle.world_core.proofs.EntryItems.{each-append, each-more, on-append, is_fate_or_up, fate-or-up-passes, below, below-calm, items-are, items-open, items-on, same-items}
-use Rattle.world_core.proofs.Parts.{part-open, part-on, up-is, up-offered, comes-not-up}
+use Rattle.world_core.proofs.Parts.{part-open, part-on}
 use Rattle.world_core.proofs.Feasible.{is_no_message, can-more, can-land, can-complete, has-returning}
 use Rattle.world_core.proofs.AskedPosts.{asked-no-cdc, none-under, none-else}
 use Rattle.world_core.proofs.Own.{own-none, own-some, IsOrNot, Is, IsNot, is-or-not, grouped, tokens-else, gone-below, gone-lands, gone-completes, room-below, later-below}
@@ -199,7 +197,7 @@ module _ (setup : Setup) (payload : List ℕ) (e : Entry) (past : List Entry) (b
           let place = first-stands past (uncompleted the_link x past) l.first l.rest (uncompleted-stand the_link x past) l.waiting in
           let b = next-completes (element_size setup) the_link x o.offer.token e past (Now x s) (Then x s) posts-on (mark x s) (agree.carried x s o f) l m n in
           let g = gone-over x s _ _ (Completes x ∷ Below s) (items-by s (Completes x ∷ []) (d ∙ own-some (Completes x) x s l.first.at past o l.first.post f place ∙ ap (λ c. if c then Completes x ∷ [] else []) i))
-              (gone-completes T x (Below s) (P s) (calm s) b.x b.others (mark x s) b.is) in
+          (gone-completes T x (Below s) (P s) (calm s) b.x b.others (mark x s) b.is) in
           carried-completes (element_size setup) the_link x o.offer.token e past (Now x s) (Then x s) posts-on (mark x s) (agree.carried x s o f) l m n g (news-own x s o f _ _ g) (has-returning (Now x s) b.x b.others b.is)
       carried-completes-by l d (IsNot i n) =
           let place = first-stands past (uncompleted the_link x past) l.first l.rest (uncompleted-stand the_link x past) l.waiting in
@@ -209,7 +207,7 @@ module _ (setup : Setup) (payload : List ℕ) (e : Entry) (past : List Entry) (b
       carried-by : Way payload the_link x e past → Goal
       carried-by (inl w) =
           let passes = subst (λ is. EachItem (passes_by x) is) (sym (items-are payload 1 s e past))
-              (each-append (passes_by x) (deeds payload s e.event e.reply past) (Below s) (w.1 s) (each-more is_fate_or_up (passes_by x) (fate-or-up-passes x) (Below s) (calm s))) in
+          (each-append (passes_by x) (deeds payload s e.event e.reply past) (Below s) (w.1 s) (each-more is_fate_or_up (passes_by x) (fate-or-up-passes x) (Below s) (calm s))) in
           let g = all-passed-by T x (I s) (P s) passes in
           carried-stays (element_size setup) the_link x o.offer.token e past (Now x s) (Then x s) posts-on (mark x s) (agree.carried x s o f) g (news-own x s o f _ _ g) w.0
       carried-by (inr (inl w)) = let l = w.0 in carried-lands-by l (w.1 s) (is-or-not x o.offer.token l.first.post)
@@ -260,8 +258,8 @@ module _ (setup : Setup) (payload : List ℕ) (e : Entry) (past : List Entry) (b
     can-by s (inl v) (inl w) =
         subst (λ is. CanBe T (is ++ P s)) (sym (items-are payload 1 s e past))
         (can-more T (deeds payload s e.event e.reply past ++ Below s) (P s)
-            (each-append is_no_message (deeds payload s e.event e.reply past) (Below s) (each-both (deeds payload s e.event e.reply past) (v.1 s) (w.1 s)) (each-more is_fate_or_up is_no_message fate-or-up-no-message (Below s) (calm s)))
-            (agree.part_can_be s))
+        (each-append is_no_message (deeds payload s e.event e.reply past) (Below s) (each-both (deeds payload s e.event e.reply past) (v.1 s) (w.1 s)) (each-more is_fate_or_up is_no_message fate-or-up-no-message (Below s) (calm s)))
+        (agree.part_can_be s))
     can-by s (inr (inl v)) w = can-lands-by A s v.0 (v.1 s) (offered B s past) refl
     can-by s (inr (inr v)) w = can-completes-by A s v.0 (v.1 s) (offered B s past) refl
     can-by s (inl v) (inr (inl w)) = can-lands-by B s w.0 (w.1 s) (offered A s past) refl

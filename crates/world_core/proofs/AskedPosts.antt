@@ -1,5 +1,5 @@
 -- Handshake and flows post CLC and LLC messages alone.
-use Rattle.std.proofs.Common.{◌≡◌, ◌∙◌, ◌==◌, ℕ, ◌&&◌, not, Bool, true, false, if◌then◌else◌, List, [], ◌∷◌, ◌++◌, length, filter_map, refl, ap, sym, subst}
+use Rattle.std.proofs.Common.{◌≡◌, ◌==◌, ℕ, ◌&&◌, not, Bool, true, false, if◌then◌else◌, List, [], ◌∷◌, ◌++◌, length, filter_map, refl}
 use Rattle.std.specs.Prelude.{Option, Some, None, option_map}
 use Rattle.smc_num.specs.declared.Side.{Side}
 use Rattle.smc_num.specs.declared.LinkId.{LinkId}
@@ -8,7 +8,6 @@ use Rattle.smc_num.specs.Keys.{Key}
 use Rattle.clc_wire.specs.declared.message.ClcMessage.{ClcMessage}
 use Rattle.clc_wire.specs.declared.message.ClcMessage.TheVariants.{Proposal as ProposalMessage, Accept as AcceptMessage, Confirm as ConfirmMessage, Decline as DeclineMessage}
 use Rattle.llc_wire.specs.declared.LlcMessage.{LlcMessage}
-use Rattle.cdc_wire.specs.declared.CdcMessage.{CdcMessage}
 use Rattle.pipe_model.specs.declared.flow.KeyPhase.{KeyPhase}
 use Rattle.pipe_model.specs.declared.flow.KeyPhase.TheVariants.{Free, Asked, Retry as RetryWaits, Deleting}
 use Rattle.pipe_model.specs.declared.verdict.ClcStep.{ClcStep}
@@ -17,7 +16,7 @@ use Rattle.pipe_model.specs.declared.flow.FlowStep.{FlowStep}
 use Rattle.pipe_model.specs.declared.flow.FlowStep.TheVariants.{Skip, Live, SendKeys, Over, AskLink, ReplyKeys, ReplyAdd, Reject, Confirmed, Retry, Withdraw, ReplyRetry, Learn, Forget, Gone, Answered, Echo}
 use Rattle.pipe_model.specs.declared.setup.Setup.{Setup}
 use Rattle.pipe_model.specs.declared.event.Event.{Event}
-use Rattle.pipe_model.specs.declared.event.Event.TheVariants.{Open, Raw, Write, Read, Finish, Close, Abort, Await, Clc as ClcEvent, Deliver, Complete, Swallow, Cut, Heal, Report, Move, Grow, Test, Trim}
+use Rattle.pipe_model.specs.declared.event.Event.TheVariants.{Open, Write, Read, Clc as ClcEvent, Deliver, Complete}
 use Rattle.pipe_model.specs.declared.reply.Reply.{Reply}
 use Rattle.pipe_model.specs.declared.reply.Reply.TheVariants.{Idle, Opened}
 use Rattle.pipe_model.specs.declared.post.Post.{Post}
@@ -28,7 +27,7 @@ use Rattle.pipe_model.specs.Flows.{Flow, LinkFlow, NoFlow, FirstContact, AddSent
 use Rattle.pipe_model.specs.Fabric.{Peer, Act, act_of, loses, flow_of}
 use Rattle.pipe_model.specs.Fallback.{Front, NoMessage, Faulty, Whole, front}
 use Rattle.pipe_model.specs.Keys.{Keys, keys_of}
-use Rattle.pipe_model.specs.Posts.{clc_posts, ready_posts, step_posts, report_posts, loss_posts, drop_posts, key_again, add_again, peer_of, deleting_rmbs, accept_post, first_link, fewest}
+use Rattle.pipe_model.specs.Posts.{clc_posts, ready_posts, step_posts, loss_posts, drop_posts, key_again, add_again, peer_of, deleting_rmbs}
 use Rattle.pipe_model.specs.Replies.{clc_step}
 use Rattle.pipe_model.specs.Lawful.{front_posts, act_posts, asked}
 use Rattle.world_core.specs.Played.{IsBuilt}
@@ -109,8 +108,8 @@ of-add x p ks qp (AddSeen k) = tt
 of-loss : (x : Side) (k : ℕ) (own : Bool) (p : Peer) (before : Flow) (past : List Entry) → EachPost IsLlc (loss_posts x k own p before past)
 of-loss x k own p before past = either-llc (p.group == 0) _ _ tt
     (append-llc (drop_posts x k own p ++ (if resends_key k before then key_again x p (keys_of x past).keys (deleting_rmbs x past) before.key ∷ [] else [])) _
-        (append-llc (drop_posts x k own p) _ (either-llc (own && not (is_dropping k p.flow)) _ _ (tt, tt) tt) (either-llc (resends_key k before) _ _ (of-key x p (keys_of x past).keys (deleting_rmbs x past) before.key, tt) tt))
-        (either-llc (resends_add k before.link) _ _ (of-add x p (keys_of x past) _ before.link) tt))
+    (append-llc (drop_posts x k own p) _ (either-llc (own && not (is_dropping k p.flow)) _ _ (tt, tt) tt) (either-llc (resends_key k before) _ _ (of-key x p (keys_of x past).keys (deleting_rmbs x past) before.key, tt) tt))
+    (either-llc (resends_add k before.link) _ _ (of-add x p (keys_of x past) _ before.link) tt))
 
 of-step : (setup : Setup) (x : Side) (on : LinkId) (m : LlcMessage) (past : List Entry) (step : FlowStep) → EachPost IsLlc (step_posts setup x on m past step)
 of-step setup x on m past Skip = tt

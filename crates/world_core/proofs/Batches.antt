@@ -1,49 +1,31 @@
 -- In a played history the pipes post with an entry nothing, or one batch of one end.
-use Rattle.std.proofs.Common.{◌≡◌, ◌∙◌, ◌==◌, ◌⊎◌, inl, inr, ℕ, ◌+◌, ◌-◌, ◌%◌, ◌≤◌, ◌<◌, Bool, true, false, not, if◌then◌else◌, List, [], ◌∷◌, ◌++◌, length, take, drop, reverse, flat_map, refl, ap, sym, subst, ◌||◌, ◌&&◌, true≢false, arith, append_assoc, append-nil, length-drop, length-append, nat_le, eqb-true, eq-eqb}
-use Rattle.std.specs.Prelude.{Option, Some, None, is_some}
+use Rattle.std.proofs.Common.{◌≡◌, ◌∙◌, inl, inr, ℕ, ◌-◌, ◌≤◌, Bool, true, false, List, [], ◌++◌, length, drop, reverse, refl, ap, sym, subst, ◌||◌, true≢false, arith, append_assoc, length-drop}
+use Rattle.std.specs.Prelude.{Option, Some, None}
 use Rattle.std.proofs.Math.Seq.{drop-length}
 use Rattle.smc_num.specs.declared.Side.{Side}
 use Rattle.smc_num.specs.declared.Side.TheVariants.{A, B}
 use Rattle.smc_num.specs.declared.LinkId.{LinkId}
-use Rattle.smc_num.specs.declared.LinkPhase.TheVariants.{Live}
-use Rattle.smc_num.specs.Places.{Place, rmb_at}
-use Rattle.smc_num.specs.Names.{head, other, same_side}
-use Rattle.clc_wire.specs.declared.offer.Offer.{Offer}
+use Rattle.smc_num.specs.Names.{other}
 use Rattle.pipe_model.specs.declared.setup.Setup.{Setup}
-use Rattle.pipe_model.specs.declared.event.Event.{Event}
-use Rattle.pipe_model.specs.declared.event.End.{End}
-use Rattle.pipe_model.specs.declared.event.Event.TheVariants.{Open, Raw, Write, Read, Finish, Close, Abort, Await, Clc, Deliver, Complete, Swallow, Cut, Heal, Report, Move, Grow, Test, Trim}
-use Rattle.pipe_model.specs.declared.reply.Reply.{Reply}
-use Rattle.pipe_model.specs.declared.post.Post.{Post}
-use Rattle.pipe_model.specs.declared.post.Post.TheVariants.{Write as WritePost, Cdc}
 use Rattle.pipe_model.specs.declared.entry.Entry.{Entry}
-use Rattle.pipe_model.specs.declared.sent.Sent.{Sent}
-use Rattle.pipe_model.specs.Words.{element_size}
-use Rattle.pipe_model.specs.Snapshot.{spelled, validation}
-use Rattle.pipe_model.specs.History.{Offered, offered, is_cdc}
-use Rattle.pipe_model.specs.Calls.{Call, Writes, Reads}
+use Rattle.pipe_model.specs.History.{Offered, offered}
 use Rattle.pipe_model.specs.Ends.{Half}
-use Rattle.pipe_model.specs.Pipe.{Terms, Item, Fate, Up, Calls, Lands, Completes, half, pipe, sent_since, posts_of}
-use Rattle.pipe_model.specs.Connections.{fates, ups, comes_up, is_up, call_on, if_own, deeds, items, part, group_on, landed_at}
+use Rattle.pipe_model.specs.Pipe.{Terms, Item, half, pipe, sent_since, posts_of}
+use Rattle.pipe_model.specs.Connections.{fates, comes_up, is_up, deeds, items, part, group_on}
 use Rattle.pipe_model.specs.Lending.{terms_of}
-use Rattle.pipe_model.specs.Keys.{last_bound}
-use Rattle.pipe_model.specs.Posts.{writes, offered_place, cdc_posts, sent_posts, end_posts, pipe_posts, is_offered, offered_sockets, connection_posts}
 use Rattle.pipe_model.specs.Lawful.{draft}
-use Rattle.world_core.specs.Played.{IsBuilt, IsMade, IsPlayed}
+use Rattle.world_core.specs.Played.{IsMade, IsPlayed}
 use Rattle.world_core.specs.OneLink.{the_link}
-use Rattle.world_core.specs.Wired.{EachItem, keeps_open, passes_by, IsOnLink}
-use Rattle.world_core.specs.WireSteps.{LandsNow, CompletesNow, Way}
-use Rattle.world_core.specs.Agreement.{IsOnlyLink, HasOffers, GoesOn, IsShaken, IsElse, IsCalm, PostsOne, PostsFew}
+use Rattle.world_core.specs.Wired.{EachItem, keeps_open, IsOnLink}
+use Rattle.world_core.specs.Agreement.{IsOnlyLink, HasOffers, GoesOn, IsShaken, IsCalm}
 use Rattle.world_core.proofs.Idle.{idle, on-link}
-use Rattle.world_core.proofs.PipePosts.{given, flat-none, met}
-use Rattle.world_core.proofs.Places.{uncompleted-stand, first-stands}
-use Rattle.world_core.proofs.Ways.{way, own-items}
-use Rattle.world_core.proofs.EntryItems.{each-append, each-reverse, each-more, items-are, items-open, deeds-open, below, below-is, below-calm, is_fate_or_up, fate-or-up-open, fates-only, fates-no-up}
-use Rattle.world_core.proofs.Parts.{part-open, part-on, up-is, up-offered, news-up, raised, raised-none}
-use Rattle.world_core.proofs.Own.{own-some, own-none, IsOrNot, Is, IsNot, is-or-not, grouped, tokens-else}
+use Rattle.world_core.proofs.PipePosts.{given}
+use Rattle.world_core.proofs.EntryItems.{each-append, each-reverse, each-more, items-are, deeds-open, below, below-is, below-calm, is_fate_or_up, fate-or-up-open, fates-only, fates-no-up}
+use Rattle.world_core.proofs.Parts.{part-open, part-on, up-is, up-offered, news-up, raised-none}
+use Rattle.world_core.proofs.Own.{grouped}
 use Rattle.world_core.proofs.Agreed.{draft-items}
 use Rattle.world_core.proofs.Quiet.{spares, all-spared}
-use Rattle.world_core.proofs.Senders.{rests, DeedsAre, deeds-are, deeds-rest, deeds-one, UpList, again, anew, calm-calls, calls-up}
+use Rattle.world_core.proofs.Senders.{rests, deeds-are, deeds-rest, deeds-one, UpList, again, anew, calm-calls, calls-up}
 
 module _ (setup : Setup) (payload : List ℕ) (e : Entry) (past : List Entry) (before n : ℕ) (made : IsMade setup payload past before e) (played : IsPlayed setup payload past n)
     (offers : HasOffers setup past) (only : IsOnlyLink past) (go : GoesOn e past) (shaken : IsShaken setup past) (calm : (x : Side) → IsCalm x e past) where

@@ -1,6 +1,6 @@
 -- The items that an entry gives a connection: fates and establishments, and at most one call, landing or completion.
-use Rattle.std.proofs.Common.{◌≡◌, ◌∙◌, ◌==◌, ◌⊎◌, inl, inr, ℕ, ◌+◌, Bool, true, false, if◌then◌else◌, List, [], ◌∷◌, ◌++◌, length, take, drop, reverse, filter_map, refl, ap, sym, subst, ◌&&◌, ◌||◌, not, true≢false, append-nil, append_assoc}
-use Rattle.std.specs.Prelude.{Option, Some, None, is_some, option_and_then, option_map, option_to_list, unwrap_or}
+use Rattle.std.proofs.Common.{◌≡◌, ◌∙◌, ◌==◌, ℕ, Bool, true, false, if◌then◌else◌, List, [], ◌∷◌, ◌++◌, length, take, drop, reverse, filter_map, refl, ap, sym, subst, ◌&&◌, not, true≢false, append-nil, append_assoc}
+use Rattle.std.specs.Prelude.{Option, Some, None, option_and_then, option_map, option_to_list}
 use Rattle.std.specs.List.{cons_option}
 use Rattle.std.specs.Option.{option_or}
 use Rattle.std.proofs.lemmas.List.{reverse-append}
@@ -9,17 +9,16 @@ use Rattle.smc_num.specs.declared.Side.TheVariants.{A, B}
 use Rattle.smc_num.specs.declared.LinkId.{LinkId}
 use Rattle.smc_num.specs.declared.LinkPhase.{LinkPhase}
 use Rattle.smc_num.specs.Links.{Known, same_phase}
-use Rattle.smc_num.specs.Names.{other, same_side}
 use Rattle.pipe_model.specs.declared.setup.Setup.{Setup}
 use Rattle.pipe_model.specs.declared.event.Event.{Event}
-use Rattle.pipe_model.specs.declared.event.Event.TheVariants.{Open, Raw, Write, Read, Finish, Close, Abort, Await, Clc, Deliver, Complete, Swallow, Cut, Heal, Report, Move, Grow, Test, Trim}
+use Rattle.pipe_model.specs.declared.event.Event.TheVariants.{Open, Write, Read, Clc, Deliver, Complete}
 use Rattle.pipe_model.specs.declared.reply.Reply.{Reply}
 use Rattle.pipe_model.specs.declared.entry.Entry.{Entry}
 use Rattle.pipe_model.specs.Calls.{Writes, Reads}
-use Rattle.pipe_model.specs.Fabric.{Fabric, fabric, peer, act_by, act_in, table_of, group_of, loses_group_with}
+use Rattle.pipe_model.specs.Fabric.{Fabric, fabric, peer, act_by, table_of, group_of}
 use Rattle.pipe_model.specs.History.{offered}
 use Rattle.pipe_model.specs.Pipe.{Item, Fate, GroupEnd, Up, Calls, Lands, Completes}
-use Rattle.pipe_model.specs.Connections.{is_fate, phase_of, fate_of, fates, group_end, ups, up_by, confirmed_by, comes_up, deeds, items, part, landed_at, completed_at}
+use Rattle.pipe_model.specs.Connections.{is_fate, phase_of, fate_of, fates, group_end, ups, up_by, confirmed_by, comes_up, deeds, items, landed_at, completed_at}
 use Rattle.world_core.specs.Played.{IsBuilt}
 use Rattle.world_core.specs.OneLink.{the_link}
 use Rattle.world_core.specs.Wired.{EachItem, EachUpOn, passes_by, keeps_open}
@@ -118,7 +117,7 @@ pub below-calm : (group s : ℕ) (e : Entry) (past : List Entry) → GoesOn e pa
 below-calm group s e past g =
     let u = each-append is_fate_or_up (ups A s e past) (ups B s e past) (one-up A (comes_up A s e past)) (one-up B (comes_up B s e past)) in
     let f = each-more is_a_fate is_fate_or_up fate-either (fates A group e past ++ fates B group e past)
-        (each-append is_a_fate (fates A group e past) (fates B group e past) (only-fates A group (table_of A past) (table_of A (e ∷ past))) (only-fates B group (table_of B past) (table_of B (e ∷ past)))) in
+    (each-append is_a_fate (fates A group e past) (fates B group e past) (only-fates A group (table_of A past) (table_of A (e ∷ past))) (only-fates B group (table_of B past) (table_of B (e ∷ past)))) in
     subst (λ is. EachItem is_fate_or_up is) (sym (below-is group s e past g))
     (each-append is_fate_or_up (reverse (ups A s e past ++ ups B s e past)) (reverse (fates A group e past ++ fates B group e past)) (each-reverse is_fate_or_up (ups A s e past ++ ups B s e past) u) (each-reverse is_fate_or_up (fates A group e past ++ fates B group e past) f))
 
@@ -178,8 +177,8 @@ pub below-on : (group s : ℕ) (e : Entry) (past : List Entry) → GoesOn e past
 below-on group s e past g =
     subst (λ is. EachUpOn the_link is) (sym (below-is group s e past g))
     (on-append the_link (reverse (ups A s e past ++ ups B s e past)) (reverse (fates A group e past ++ fates B group e past))
-        (on-ups A B the_link (comes_up A s e past) (comes_up B s e past) (λ l q. let u = g.ups A s l q in u.0) (λ l q. let u = g.ups B s l q in u.0))
-        (on-none the_link (reverse (fates A group e past ++ fates B group e past)) (fates-no-up group e past)))
+    (on-ups A B the_link (comes_up A s e past) (comes_up B s e past) (λ l q. let u = g.ups A s l q in u.0) (λ l q. let u = g.ups B s l q in u.0))
+    (on-none the_link (reverse (fates A group e past ++ fates B group e past)) (fates-no-up group e past)))
 
 pub deeds-no-up : (setup : Setup) (payload : List ℕ) (s : ℕ) (event : Event) (reply : Reply) (past : List Entry) → IsBuilt setup (length payload) event → EachItem is_no_up (deeds payload s event reply past)
 deeds-no-up setup payload s (Open t) reply past b = tt

@@ -1,5 +1,5 @@
 -- No group ends: what a side has come to it does not leave.
-use Rattle.std.proofs.Common.{◌≡◌, ◌∙◌, ◌==◌, ◌⊎◌, inl, inr, ℕ, ◌+◌, ◌≤◌, Bool, true, false, if◌then◌else◌, List, [], ◌∷◌, length, filter, refl, ap, sym, subst, arith, true≢false, eqb-true, eq-eqb}
+use Rattle.std.proofs.Common.{◌≡◌, ◌∙◌, ◌==◌, ◌⊎◌, inl, inr, ℕ, ◌+◌, ◌≤◌, Bool, true, false, if◌then◌else◌, List, ◌∷◌, length, filter, refl, ap, sym, arith, true≢false, eqb-true, eq-eqb}
 use Rattle.std.specs.Prelude.{Option, Some, None, is_some}
 use Rattle.smc_num.specs.declared.Side.{Side}
 use Rattle.smc_num.specs.declared.Side.TheVariants.{A, B}
@@ -7,9 +7,9 @@ use Rattle.pipe_model.specs.declared.setup.Setup.{Setup}
 use Rattle.pipe_model.specs.declared.entry.Entry.{Entry}
 use Rattle.pipe_model.specs.History.{Offered, offered}
 use Rattle.pipe_model.specs.Fabric.{peer, loses_group_with}
-use Rattle.pipe_model.specs.Posts.{groups_begun, begins_group_in}
-use Rattle.world_core.specs.OneLink.{Stage, NoLink, Begun, Made, Asking, LiveAtA, LiveAtBoth, fabric_at, groups_at, IsAtStage}
-use Rattle.world_core.specs.Sockets.{Socket, Unopened, Fallen, Proposed, Refused, FirstAccepted, FirstConfirmed, AwaitsLink, FirstUpAtA, FirstUp, Accepted, AcceptRefused, AcceptFallen, Confirmed, Up, StandsAt, HasSocket, IsWorld, offered_at, first_step, is_unoffered, suits}
+use Rattle.pipe_model.specs.Posts.{begins_group_in}
+use Rattle.world_core.specs.OneLink.{Stage, NoLink, Begun, Made, Asking, LiveAtA, LiveAtBoth, fabric_at, groups_at}
+use Rattle.world_core.specs.Sockets.{Socket, Unopened, Fallen, Proposed, Refused, FirstAccepted, FirstConfirmed, AwaitsLink, FirstUpAtA, FirstUp, Accepted, AcceptRefused, AcceptFallen, Confirmed, Up, IsWorld, offered_at, first_step, is_unoffered, suits}
 use Rattle.world_core.proofs.Moves.{KeepsGroups, keeps-group}
 
 -- B's group, by the count of groups

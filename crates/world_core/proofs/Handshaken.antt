@@ -1,18 +1,13 @@
 -- In every played history the handshake gives what the pipes need of it.
-use Rattle.std.proofs.Common.{◌≡◌, ◌∙◌, ◌⊎◌, ℕ, List, [], ◌∷◌, refl, ap, sym, subst}
-use Rattle.std.specs.Prelude.{Option, Some, None}
-use Rattle.smc_num.specs.declared.Side.{Side}
+use Rattle.std.proofs.Common.{◌∙◌, ℕ, List, [], ◌∷◌, sym}
 use Rattle.smc_num.specs.declared.Side.TheVariants.{A, B}
 use Rattle.pipe_model.specs.declared.setup.Setup.{Setup}
 use Rattle.pipe_model.specs.declared.entry.Entry.{Entry}
-use Rattle.pipe_model.specs.History.{Offered, offered}
-use Rattle.pipe_model.specs.Posts.{connection_posts}
 use Rattle.pipe_model.specs.Lawful.{draft}
 use Rattle.world_core.specs.Played.{IsOneLink, IsMade, IsPlayed}
-use Rattle.world_core.specs.OneLink.{the_link, Stage, IsAtStage}
-use Rattle.world_core.specs.Sockets.{StandsAt, HasSocket, IsWorld}
-use Rattle.world_core.specs.Agreement.{IsOnlyLink, HasOffers, GoesOn, IsShaken, IsCalm, Agree, HasPipe, PostsFew}
-use Rattle.world_core.proofs.TakenMessages.{Goes}
+use Rattle.world_core.specs.OneLink.{Stage}
+use Rattle.world_core.specs.Sockets.{IsWorld}
+use Rattle.world_core.specs.Agreement.{HasOffers, GoesOn, IsShaken, PostsFew}
 use Rattle.world_core.proofs.PlayedWorlds.{goes, played}
 use Rattle.world_core.proofs.NewOffers.{HasSocketAt, asked-offers}
 use Rattle.world_core.proofs.Shaken.{Choice, only-link, offer-link, offer-answer, kept-by}

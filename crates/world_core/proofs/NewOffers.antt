@@ -1,12 +1,11 @@
 -- An entry offers at most once: an end that waits for the message it takes, under the next token of its side.
-use Rattle.std.proofs.Common.{◌≡◌, ◌∙◌, ◌==◌, ◌⊎◌, inl, inr, ℕ, ◌+◌, ◌≤◌, ◌<◌, Bool, true, false, not, if◌then◌else◌, List, [], ◌∷◌, ◌++◌, length, filter_map, refl, ap, sym, subst, ◌||◌, ◌&&◌, true≢false, arith, eqb-true, eq-eqb, append-nil}
-use Rattle.std.specs.Prelude.{Option, Some, None, is_some, option_map, unwrap_or}
+use Rattle.std.proofs.Common.{◌≡◌, ◌∙◌, ◌==◌, ◌⊎◌, inl, inr, ℕ, ◌<◌, Bool, true, false, not, if◌then◌else◌, List, [], ◌∷◌, length, filter_map, refl, ap, sym, ◌&&◌, true≢false}
+use Rattle.std.specs.Prelude.{Some, None, option_map, unwrap_or}
 use Rattle.std.specs.List.{cons_option}
-use Rattle.std.proofs.lemmas.List.Elements.{filter_map-append}
 use Rattle.smc_num.specs.declared.Side.{Side}
 use Rattle.smc_num.specs.declared.Side.TheVariants.{A, B}
 use Rattle.smc_num.specs.declared.LinkId.{LinkId}
-use Rattle.smc_num.specs.Names.{other, same_side, head, no_link}
+use Rattle.smc_num.specs.Names.{other, same_side, no_link}
 use Rattle.clc_wire.specs.declared.offer.Offer.{Offer}
 use Rattle.clc_wire.specs.declared.proposal.Proposal.{Proposal}
 use Rattle.clc_wire.specs.declared.message.ClcMessage.{ClcMessage}
@@ -21,16 +20,16 @@ use Rattle.pipe_model.specs.declared.reply.Lack.TheVariants.{NoSubnet, NoServerE
 use Rattle.pipe_model.specs.declared.reply.SentKind.TheVariants.{Confirm as ConfirmKind}
 use Rattle.pipe_model.specs.declared.setup.Setup.{Setup}
 use Rattle.pipe_model.specs.declared.event.Event.{Event}
-use Rattle.pipe_model.specs.declared.event.Event.TheVariants.{Open, Raw, Write, Read, Finish, Close, Abort, Await, Clc as ClcEvent, Deliver, Complete, Swallow, Cut, Heal, Report, Move, Grow, Test, Trim}
+use Rattle.pipe_model.specs.declared.event.Event.TheVariants.{Open, Write, Read, Clc as ClcEvent, Deliver, Complete}
 use Rattle.pipe_model.specs.declared.reply.Reply.{Reply}
 use Rattle.pipe_model.specs.declared.reply.Reply.TheVariants.{Idle, Opened}
 use Rattle.pipe_model.specs.declared.post.Post.{Post}
 use Rattle.pipe_model.specs.declared.post.Post.TheVariants.{Write as WritePost, Cdc, Llc, Clc}
 use Rattle.pipe_model.specs.declared.entry.Entry.{Entry}
 use Rattle.pipe_model.specs.History.{Offered, offered, offer_in, offered_if}
-use Rattle.pipe_model.specs.Lending.{Lending, lends, lendings}
+use Rattle.pipe_model.specs.Lending.{lends}
 use Rattle.pipe_model.specs.Connections.{EndState, NoEnd, WaitsProposal, WaitsAnswer, WaitsConfirm, WaitsLink, IsUp, HasFallen, WasReset, end_state}
-use Rattle.pipe_model.specs.Handshake.{key_step, first_contact_step, on_proposal, on_first_accept, on_later_accept, on_accept, on_confirm, verdict, lacks}
+use Rattle.pipe_model.specs.Handshake.{key_step, on_proposal, on_accept, on_confirm, verdict, lacks}
 use Rattle.pipe_model.specs.Flows.{is_asked, is_deleting}
 use Rattle.pipe_model.specs.Fabric.{act_of}
 use Rattle.pipe_model.specs.Wires.{landing}

@@ -1,37 +1,35 @@
 -- At most one end acts with an entry, so that all pipes together post one batch.
-use Rattle.std.proofs.Common.{◌≡◌, ◌∙◌, ◌==◌, ◌⊎◌, inl, inr, ℕ, ◌+◌, ◌-◌, ◌%◌, ◌≤◌, ◌<◌, Bool, true, false, not, if◌then◌else◌, List, [], ◌∷◌, ◌++◌, length, take, drop, flat_map, refl, ap, sym, subst, ◌||◌, ◌&&◌, true≢false, arith, append-nil, length-append, nat_le, eqb-true, eq-eqb}
-use Rattle.std.specs.Prelude.{Option, Some, None, is_some, unwrap_or}
+use Rattle.std.proofs.Common.{◌≡◌, ◌∙◌, ◌==◌, ◌⊎◌, inl, inr, ℕ, ◌+◌, ◌-◌, ◌%◌, ◌≤◌, Bool, true, false, not, if◌then◌else◌, List, [], ◌∷◌, ◌++◌, length, take, drop, flat_map, refl, ap, sym, subst, ◌&&◌, true≢false, arith, append-nil, length-append, nat_le, eqb-true, eq-eqb}
+use Rattle.std.specs.Prelude.{Option, Some, None, unwrap_or}
 use Rattle.smc_num.specs.declared.Side.{Side}
 use Rattle.smc_num.specs.declared.Side.TheVariants.{A, B}
-use Rattle.smc_num.specs.declared.LinkId.{LinkId}
-use Rattle.smc_num.specs.Places.{Place, rmb_at}
+use Rattle.smc_num.specs.Places.{rmb_at}
 use Rattle.smc_num.specs.Names.{other, same_side}
-use Rattle.clc_wire.specs.declared.offer.Offer.{Offer}
 use Rattle.pipe_model.specs.declared.setup.Setup.{Setup}
 use Rattle.pipe_model.specs.declared.event.Event.{Event}
 use Rattle.pipe_model.specs.declared.event.End.{End}
-use Rattle.pipe_model.specs.declared.event.Event.TheVariants.{Open, Raw, Write, Read, Finish, Close, Abort, Await, Clc, Deliver, Complete, Swallow, Cut, Heal, Report, Move, Grow, Test, Trim}
+use Rattle.pipe_model.specs.declared.event.Event.TheVariants.{Open, Write, Read, Clc, Deliver, Complete}
 use Rattle.pipe_model.specs.declared.post.Post.{Post}
 use Rattle.pipe_model.specs.declared.post.Post.TheVariants.{Write as WritePost, Cdc, Llc, Clc as ClcPost}
 use Rattle.pipe_model.specs.declared.post.PostRef.{PostRef}
 use Rattle.pipe_model.specs.declared.entry.Entry.{Entry}
 use Rattle.pipe_model.specs.declared.sent.Sent.{Sent}
 use Rattle.pipe_model.specs.Words.{element_size, passes}
-use Rattle.pipe_model.specs.Snapshot.{spelled, validation}
+use Rattle.pipe_model.specs.Snapshot.{spelled}
 use Rattle.pipe_model.specs.History.{Offered, offered, is_cdc}
 use Rattle.pipe_model.specs.Calls.{Call, Writes, Reads}
 use Rattle.pipe_model.specs.Pipe.{Item, Calls, Lands, Completes, posts_of}
 use Rattle.pipe_model.specs.Wires.{uncompleted}
-use Rattle.pipe_model.specs.Connections.{is_up, call_on, is_own, if_own, deeds, items, part, group_on, landed_at, completed_at}
+use Rattle.pipe_model.specs.Connections.{is_up, call_on, is_own, if_own, deeds, items, part, landed_at, completed_at}
 use Rattle.pipe_model.specs.Lending.{terms_of}
 use Rattle.pipe_model.specs.Keys.{last_bound}
-use Rattle.pipe_model.specs.Posts.{writes, offered_place, cdc_posts, sent_posts, end_posts, pipe_posts, is_offered, offered_sockets, connection_posts}
+use Rattle.pipe_model.specs.Posts.{writes, offered_place, sent_posts, end_posts, pipe_posts, is_offered, offered_sockets, connection_posts}
 use Rattle.pipe_model.specs.Lawful.{draft}
 use Rattle.world_core.specs.Played.{IsBuilt, IsMade, IsPlayed}
 use Rattle.world_core.specs.OneLink.{the_link}
 use Rattle.world_core.specs.Wired.{EachItem, passes_by}
-use Rattle.world_core.specs.WireSteps.{LandsNow, CompletesNow, Way}
-use Rattle.world_core.specs.Agreement.{IsOnlyLink, HasOffers, GoesOn, IsShaken, IsElse, IsCalm, PostsOne, PostsFew}
+use Rattle.world_core.specs.WireSteps.{CompletesNow, Way}
+use Rattle.world_core.specs.Agreement.{IsOnlyLink, HasOffers, GoesOn, IsShaken, IsElse, IsCalm, PostsFew}
 use Rattle.world_core.proofs.PipePosts.{given, flat-none, met}
 use Rattle.world_core.proofs.Places.{uncompleted-stand, first-stands}
 use Rattle.world_core.proofs.Ways.{way, own-items}
@@ -55,7 +53,7 @@ few-sent size x o past m =
     let key : ℕ = unwrap_or (last_bound (other x) (rmb_at o.offer.address) m.link past) 0 in
     let w : length (writes size x m.link key (offered_place o.offer) m.from m.snapshot.told) ≤ 2 = few-writes (m.from == m.snapshot.told) (nat_le (m.from % size + (m.snapshot.told - m.from)) size) _ _ _ in
     let n : length (writes size x m.link key (offered_place o.offer) m.from m.snapshot.told ++ Cdc x m.link (spelled size o.offer.token m.snapshot) ∷ []) ≡ length (writes size x m.link key (offered_place o.offer) m.from m.snapshot.told) + 1 =
-        length-append (writes size x m.link key (offered_place o.offer) m.from m.snapshot.told) (Cdc x m.link (spelled size o.offer.token m.snapshot) ∷ []) in
+    length-append (writes size x m.link key (offered_place o.offer) m.from m.snapshot.told) (Cdc x m.link (spelled size o.offer.token m.snapshot) ∷ []) in
     few-by m.check _ _ (omega arith) (omega (arith, n, w))
 
 -- which items make the ends rest
@@ -227,8 +225,8 @@ module _ (setup : Setup) (payload : List ℕ) (e : Entry) (past : List Entry) (b
   few-by-given q o f [] g l = inl (nowhere q (end-none q.x q.s g))
   few-by-given q o f (m ∷ []) g l =
       let posts : connection_posts setup payload D past ≡ sent_posts (element_size setup) q.x (Some o) (D ∷ past) m =
-          all-of q o f ∙ ap (λ r. flat_map (sent_posts (element_size setup) q.x r (D ∷ past)) (given setup payload D past q.x q.s)) f ∙ ap (λ ns. flat_map (sent_posts (element_size setup) q.x (Some o) (D ∷ past)) ns) g ∙
-          append-nil (sent_posts (element_size setup) q.x (Some o) (D ∷ past) m) in
+      all-of q o f ∙ ap (λ r. flat_map (sent_posts (element_size setup) q.x r (D ∷ past)) (given setup payload D past q.x q.s)) f ∙ ap (λ ns. flat_map (sent_posts (element_size setup) q.x (Some o) (D ∷ past)) ns) g ∙
+      append-nil (sent_posts (element_size setup) q.x (Some o) (D ∷ past) m) in
       inr (record {
         x = q.x;
         s = q.s;

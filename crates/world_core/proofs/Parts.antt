@@ -1,26 +1,21 @@
 -- The part of a connection in a played history: no close is in it, its establishments are on the one link, and an end of its pipe
 -- is established just where that of its socket is.
-use Rattle.std.proofs.Common.{◌≡◌, ◌∙◌, ℕ, ◌+◌, Bool, true, false, if◌then◌else◌, List, [], ◌∷◌, ◌++◌, length, reverse, refl, ap, sym, subst, ◌&&◌, ◌||◌, not, true≢false}
+use Rattle.std.proofs.Common.{◌≡◌, ◌∙◌, ℕ, Bool, true, false, List, [], ◌∷◌, ◌++◌, reverse, refl, ap, sym, ◌||◌, true≢false}
 use Rattle.std.specs.Prelude.{Option, Some, None, is_some, option_map, option_to_list}
 use Rattle.smc_num.specs.declared.Side.{Side}
 use Rattle.smc_num.specs.declared.Side.TheVariants.{A, B}
 use Rattle.smc_num.specs.declared.LinkId.{LinkId}
-use Rattle.smc_num.specs.declared.LinkPhase.{LinkPhase}
-use Rattle.smc_num.specs.declared.LinkPhase.TheVariants.{Unused, Pending, Live, Dead}
 use Rattle.smc_num.specs.Names.{other, same_side, head}
-use Rattle.smc_num.specs.Numbers.{wire_number}
 use Rattle.pipe_model.specs.declared.setup.Setup.{Setup}
 use Rattle.pipe_model.specs.declared.entry.Entry.{Entry}
-use Rattle.pipe_model.specs.declared.sent.Sent.{Sent}
 use Rattle.pipe_model.specs.History.{Offered, offered}
-use Rattle.pipe_model.specs.Ends.{Half, settle, is_due, posts_batch, meets_fate, takes, completes, to_land, to_complete}
-use Rattle.pipe_model.specs.Calls.{Call, calls}
+use Rattle.pipe_model.specs.Ends.{Half, settle, is_due, posts_batch, to_land, to_complete}
 use Rattle.pipe_model.specs.Pipe.{Pipe, Terms, Item, Fate, GroupEnd, Up, Calls, Lands, Completes, half, pipe, apply, step}
 use Rattle.pipe_model.specs.Connections.{comes_up, ups, fates, deeds, is_up, items, part}
 use Rattle.world_core.specs.Played.{IsMade, IsPlayed}
 use Rattle.world_core.specs.OneLink.{the_link}
 use Rattle.world_core.specs.Wired.{EachItem, EachUpOn, keeps_open}
-use Rattle.world_core.specs.Agreement.{GoesOn, IsShaken, HasOffers}
+use Rattle.world_core.specs.Agreement.{GoesOn, IsShaken}
 use Rattle.world_core.proofs.Growth.{either}
 use Rattle.world_core.proofs.Idle.{same-takes, same-completes, same-fate, same-call}
 use Rattle.world_core.proofs.EntryItems.{each-append, on-append, items-are, items-open, items-on, below, below-is, fates-no-up, is_no_up, deeds-no-up}

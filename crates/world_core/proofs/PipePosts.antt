@@ -1,24 +1,23 @@
 -- Of what all pipes post with an entry, the CDC messages under one token are those of one end.
-use Rattle.std.proofs.Common.{◌≡◌, ◌∙◌, ◌==◌, ℕ, ◌+◌, ◌-◌, ◌≤◌, ◌<◌, Bool, true, false, if◌then◌else◌, List, [], ◌∷◌, ◌++◌, length, map, filter, filter_map, flat_map, refl, ap, sym, subst, ◌&&◌, not, true≢false, append-nil, arith, suc, zero, eq-eqb, eqb-true, nat_le, ◌%◌}
-use Rattle.std.specs.Prelude.{Option, Some, None, cond, unwrap_or}
+use Rattle.std.proofs.Common.{◌≡◌, ◌∙◌, ◌==◌, ℕ, ◌+◌, ◌-◌, ◌≤◌, ◌<◌, Bool, true, false, if◌then◌else◌, List, [], ◌∷◌, ◌++◌, map, filter, filter_map, flat_map, refl, ap, sym, ◌&&◌, true≢false, append-nil, arith, suc, zero, eq-eqb, eqb-true, nat_le, ◌%◌}
+use Rattle.std.specs.Prelude.{Option, Some, None, cond}
 use Rattle.std.specs.List.{cons_option, range_with_len}
 use Rattle.std.proofs.lemmas.List.Elements.{filter_map-append}
 use Rattle.smc_num.specs.declared.Side.{Side}
 use Rattle.smc_num.specs.declared.Side.TheVariants.{A, B}
 use Rattle.smc_num.specs.declared.LinkId.{LinkId}
-use Rattle.smc_num.specs.Names.{other, same_side, up_to}
-use Rattle.smc_num.specs.Places.{Place, rmb_at}
+use Rattle.smc_num.specs.Names.{other, same_side}
+use Rattle.smc_num.specs.Places.{Place}
 use Rattle.clc_wire.specs.declared.offer.Offer.{Offer}
 use Rattle.cdc_wire.specs.declared.CdcMessage.{CdcMessage}
 use Rattle.pipe_model.specs.declared.setup.Setup.{Setup}
 use Rattle.pipe_model.specs.declared.post.Post.{Post}
-use Rattle.pipe_model.specs.declared.post.Post.TheVariants.{Write, Cdc, Llc, Clc}
+use Rattle.pipe_model.specs.declared.post.Post.TheVariants.{Cdc}
 use Rattle.pipe_model.specs.declared.entry.Entry.{Entry}
 use Rattle.pipe_model.specs.declared.sent.Sent.{Sent}
 use Rattle.pipe_model.specs.Words.{element_size}
 use Rattle.pipe_model.specs.Snapshot.{spelled, validation}
 use Rattle.pipe_model.specs.History.{Offered, offered}
-use Rattle.pipe_model.specs.Keys.{last_bound}
 use Rattle.pipe_model.specs.Pipe.{posts_of}
 use Rattle.pipe_model.specs.Parts.{EachOf}
 use Rattle.pipe_model.specs.Connections.{group_on, items, part}
@@ -198,4 +197,4 @@ module _ (link : LinkId) where
   pub pipes-on : (setup : Setup) (payload : List ℕ) (e : Entry) (past : List Entry) → ((x : Side) (s : ℕ) → EachOf (λ m. m.link ≡ link) (given setup payload e past x s)) → EachPost (IsCdcOn link) (connection_posts setup payload e past)
   pipes-on setup payload e past f = on-flat (λ s. pipe_posts setup payload s e past) (offered_sockets setup past)
       (λ s. on-append (end_posts setup payload A s e past) (end_posts setup payload B s e past)
-          (on-sent (element_size setup) A (offered B s past) (e ∷ past) (given setup payload e past A s) (f A s)) (on-sent (element_size setup) B (offered A s past) (e ∷ past) (given setup payload e past B s) (f B s)))
+      (on-sent (element_size setup) A (offered B s past) (e ∷ past) (given setup payload e past A s) (f A s)) (on-sent (element_size setup) B (offered A s past) (e ∷ past) (given setup payload e past B s) (f B s)))

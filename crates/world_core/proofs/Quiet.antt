@@ -1,12 +1,12 @@
 -- Which items make an end post nothing: those of the other end, landings, and its own establishment.
-use Rattle.std.proofs.Common.{eq-eqb, ◌≡◌, ◌∙◌, ◌==◌, ℕ, ◌+◌, ◌≤◌, min, Bool, true, false, not, if◌then◌else◌, List, [], ◌∷◌, ◌++◌, length, take, drop, refl, ap, sym, subst, ◌||◌, ◌&&◌, true≢false, nat_lt, arith, length-append}
+use Rattle.std.proofs.Common.{eq-eqb, ◌≡◌, ◌∙◌, ◌==◌, ℕ, ◌+◌, ◌≤◌, Bool, true, false, not, if◌then◌else◌, List, [], ◌∷◌, ◌++◌, length, drop, refl, ap, sym, subst, ◌||◌, ◌&&◌, true≢false, nat_lt, arith, length-append}
 use Rattle.std.specs.Prelude.{Option, Some, None, is_some}
 use Rattle.smc_num.specs.declared.Side.{Side}
 use Rattle.smc_num.specs.declared.Side.TheVariants.{A, B}
 use Rattle.smc_num.specs.declared.LinkId.{LinkId}
 use Rattle.smc_num.specs.declared.LinkPhase.{LinkPhase}
 use Rattle.smc_num.specs.declared.LinkPhase.TheVariants.{Unused, Pending, Live, Dead}
-use Rattle.smc_num.specs.Names.{head, other, has_link, same_side}
+use Rattle.smc_num.specs.Names.{head, has_link, same_side}
 use Rattle.smc_num.specs.Numbers.{wire_number}
 use Rattle.pipe_model.specs.declared.reply.ResetCause.TheVariants.{PeerAbort, Gap}
 use Rattle.pipe_model.specs.declared.snapshot.Snapshot.{Snapshot}
@@ -14,10 +14,8 @@ use Rattle.pipe_model.specs.declared.sent.Sent.{Sent}
 use Rattle.pipe_model.specs.Words.{same_bool}
 use Rattle.pipe_model.specs.Snapshot.{shows_gap, tells_same}
 use Rattle.pipe_model.specs.Closing.{cause_of, is_closing, is_group_gone, after_completing}
-use Rattle.pipe_model.specs.Ends.{Half, fresh, settle, is_due, is_over, meets_fate, takes, takes_snapshot, validates, strikes, completes, counts_completed, batch, present, posts_batch, to_land, to_complete, lands, comes_up}
-use Rattle.pipe_model.specs.Calls.{Call, calls}
-use Rattle.pipe_model.specs.Pipe.{Pipe, Terms, Item, Fate, GroupEnd, Up, Calls, Lands, Completes, half, pipe, apply, step, sent_since}
-use Rattle.pipe_model.specs.Parts.{EachOf, IsSettled}
+use Rattle.pipe_model.specs.Ends.{Half, fresh, settle, is_due, is_over, meets_fate, takes, takes_snapshot, validates, strikes, completes, counts_completed, batch, present, posts_batch, to_land, to_complete, comes_up}
+use Rattle.pipe_model.specs.Pipe.{Pipe, Terms, Item, Fate, GroupEnd, Up, Calls, Lands, Completes, half, pipe, apply}
 use Rattle.pipe_model.proofs.Settled.{nothing-due}
 use Rattle.world_core.specs.Wired.{EachItem, keeps_open, IsOpenEnd, IsOpenSent}
 use Rattle.world_core.proofs.OpenEnds.{half-open, each-head, MaySent, takes-open-is}
@@ -207,9 +205,9 @@ new-not-due : (depth : ℕ) (h : Half) (link : LinkId) → IsUntouched h → IsO
 new-not-due depth h link u o =
     let l = o.last in
     let told : (if is_some (cause_of h.phase) then h.last.told else length h.out) ≡ h.last.told =
-        ap (λ b. if b then h.last.told else length h.out) (ap (λ p. is_some (cause_of p)) o.phase) ∙ ap (λ ns. length ns) u.out ∙ sym u.told in
+    ap (λ b. if b then h.last.told else length h.out) (ap (λ p. is_some (cause_of p)) o.phase) ∙ ap (λ ns. length ns) u.out ∙ sym u.told in
     let same = nothing-to-tell (h.number + 1) (if is_some (cause_of h.phase) then h.last.told else length h.out) h.rd h.finished (is_closing h.phase && (h.fin.told == length h.out)) (is_some (cause_of h.phase)) h.last
-        told (u.rd ∙ sym u.read) o.finished (ap (λ p. is_closing p && (h.fin.told == length h.out)) o.phase) (ap (λ p. is_some (cause_of p)) o.phase) l.done l.closed l.aborted in
+    told (u.rd ∙ sym u.read) o.finished (ap (λ p. is_closing p && (h.fin.told == length h.out)) o.phase) (ap (λ p. is_some (cause_of p)) o.phase) l.done l.closed l.aborted in
     last-false (true && not (is_group_gone h.phase)) (has_link link h.live) (nat_lt (length h.flight) depth) (tells_same (present (comes_up link h)) h.last) same
   where
     last-false : (a b c d : Bool) → d ≡ true → (a && (b && (c && not d))) ≡ false

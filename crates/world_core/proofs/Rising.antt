@@ -1,5 +1,5 @@
 -- An end comes up on the one link, where its peer has offered; and the link becomes live at a side before any end there is up.
-use Rattle.std.proofs.Common.{◌≡◌, ◌∙◌, ◌==◌, ◌⊎◌, inl, inr, ℕ, ◌+◌, ◌≤◌, Bool, true, false, not, if◌then◌else◌, List, [], ◌∷◌, filter_map, refl, ap, sym, subst, arith, ◌&&◌, ◌||◌, true≢false, eqb-true, eq-eqb}
+use Rattle.std.proofs.Common.{◌≡◌, ◌∙◌, ◌==◌, ◌⊎◌, inl, inr, ℕ, ◌≤◌, Bool, true, false, if◌then◌else◌, List, [], ◌∷◌, filter_map, refl, ap, sym, arith, ◌&&◌, ◌||◌, true≢false, eqb-true}
 use Rattle.std.specs.Prelude.{Option, Some, None, is_some, option_map, option_and_then, unwrap_or}
 use Rattle.std.specs.Option.{option_or}
 use Rattle.smc_num.specs.declared.Side.{Side}
@@ -16,17 +16,14 @@ use Rattle.pipe_model.specs.declared.event.Event.TheVariants.{Clc as ClcEvent}
 use Rattle.pipe_model.specs.declared.reply.Reply.{Reply}
 use Rattle.pipe_model.specs.declared.reply.Reply.TheVariants.{Established}
 use Rattle.pipe_model.specs.declared.entry.Entry.{Entry}
-use Rattle.pipe_model.specs.Words.{passes}
 use Rattle.pipe_model.specs.History.{Offered, offered}
 use Rattle.pipe_model.specs.Fabric.{Act, Fabric, act_by, act_in, peer, table_of}
 use Rattle.pipe_model.specs.Pipe.{Item, Fate}
 use Rattle.pipe_model.specs.Connections.{named_link, is_first_on, confirmed_by, up_by, comes_up, is_up, fate_of, fates}
-use Rattle.pipe_model.specs.Lawful.{draft}
 use Rattle.world_core.specs.Played.{IsMade}
-use Rattle.world_core.specs.OneLink.{the_link, the_known, Stage, NoLink, Begun, Made, Asking, LiveAtA, LiveAtBoth, fabric_at, IsAtStage}
-use Rattle.world_core.specs.Sockets.{Socket, Unopened, Fallen, Proposed, Refused, FirstAccepted, FirstConfirmed, AwaitsLink, FirstUpAtA, FirstUp, Accepted, AcceptRefused, AcceptFallen, Confirmed, Up, StandsAt, HasSocket, IsWorld, offered_at, up_at, first_step, is_unoffered, suits}
+use Rattle.world_core.specs.OneLink.{the_link, the_known, Stage, NoLink, Begun, Made, Asking, LiveAtA, LiveAtBoth, fabric_at}
+use Rattle.world_core.specs.Sockets.{Socket, Unopened, Fallen, Proposed, Refused, FirstAccepted, FirstConfirmed, AwaitsLink, FirstUpAtA, FirstUp, Accepted, AcceptRefused, AcceptFallen, Confirmed, Up, IsWorld, up_at, first_step, is_unoffered, suits}
 use Rattle.world_core.specs.Agreement.{IsCalm}
-use Rattle.world_core.proofs.NewOffers.{NoOffers, OneOffer}
 use Rattle.world_core.proofs.Shaken.{Choice, offered-none, old-or-new, up-answered}
 
 none-some : (l : LinkId) → None ≡ Some l → ⊥

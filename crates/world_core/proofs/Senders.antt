@@ -1,40 +1,30 @@
 -- What an end posts with an entry: nothing, where it neither calls nor has a message completed, and one message at most else.
-use Rattle.std.proofs.Common.{◌≡◌, ◌∙◌, ◌==◌, ◌⊎◌, inl, inr, ℕ, ◌+◌, ◌-◌, ◌≤◌, ◌<◌, Bool, true, false, not, if◌then◌else◌, List, [], ◌∷◌, ◌++◌, length, take, drop, reverse, refl, ap, sym, subst, ◌||◌, ◌&&◌, true≢false, arith, append_assoc, length-drop}
-use Rattle.std.specs.Prelude.{Option, Some, None, is_some, option_map, option_to_list, filter_map}
-use Rattle.std.specs.List.{cons_option}
-use Rattle.std.proofs.Math.Seq.{drop-length}
+use Rattle.std.proofs.Common.{◌≡◌, ◌∙◌, ◌==◌, ℕ, ◌+◌, ◌≤◌, Bool, true, false, not, if◌then◌else◌, List, [], ◌∷◌, ◌++◌, length, take, drop, reverse, refl, ap, sym, subst, ◌||◌, ◌&&◌, true≢false, arith, append_assoc}
+use Rattle.std.specs.Prelude.{Option, Some, None, option_map, option_to_list}
 use Rattle.smc_num.specs.declared.Side.{Side}
 use Rattle.smc_num.specs.declared.Side.TheVariants.{A, B}
 use Rattle.smc_num.specs.declared.LinkId.{LinkId}
-use Rattle.smc_num.specs.declared.LinkPhase.{LinkPhase}
-use Rattle.smc_num.specs.declared.LinkPhase.TheVariants.{Unused, Pending, Live, Dead}
-use Rattle.smc_num.specs.Links.{Known, same_phase}
-use Rattle.smc_num.specs.Names.{head, other, same_side}
+use Rattle.smc_num.specs.Names.{head, same_side}
 use Rattle.pipe_model.specs.declared.setup.Setup.{Setup}
 use Rattle.pipe_model.specs.declared.event.Event.{Event}
 use Rattle.pipe_model.specs.declared.event.End.{End}
-use Rattle.pipe_model.specs.declared.event.Event.TheVariants.{Open, Raw, Write, Read, Finish, Close, Abort, Await, Clc, Deliver, Complete, Swallow, Cut, Heal, Report, Move, Grow, Test, Trim}
+use Rattle.pipe_model.specs.declared.event.Event.TheVariants.{Open, Write, Read, Clc, Deliver, Complete}
 use Rattle.pipe_model.specs.declared.reply.Reply.{Reply}
 use Rattle.pipe_model.specs.declared.post.PostRef.{PostRef}
 use Rattle.pipe_model.specs.declared.entry.Entry.{Entry}
-use Rattle.pipe_model.specs.declared.sent.Sent.{Sent}
 use Rattle.pipe_model.specs.Words.{passes}
-use Rattle.pipe_model.specs.History.{Offered, offered}
-use Rattle.pipe_model.specs.Fabric.{table_of}
 use Rattle.pipe_model.specs.Ends.{Half, to_land, to_complete}
 use Rattle.pipe_model.specs.Calls.{Call, Writes, Reads}
-use Rattle.pipe_model.specs.Pipe.{Pipe, Terms, Item, Fate, GroupEnd, Up, Calls, Lands, Completes, half, pipe, apply, sent_since, posts_of}
-use Rattle.pipe_model.specs.Connections.{is_fate, phase_of, fate_of, fates, ups, comes_up, is_up, call_on, is_own, if_own, deeds, items, part, group_on, landed_at, completed_at}
-use Rattle.pipe_model.specs.Lending.{terms_of}
-use Rattle.world_core.specs.Played.{IsBuilt, IsMade, IsPlayed}
+use Rattle.pipe_model.specs.Pipe.{Pipe, Terms, Item, Fate, GroupEnd, Up, Calls, Lands, Completes, half, pipe, apply}
+use Rattle.pipe_model.specs.Connections.{is_up, call_on, is_own, if_own, deeds, items, part, landed_at, completed_at}
+use Rattle.world_core.specs.Played.{IsBuilt, IsPlayed}
 use Rattle.world_core.specs.OneLink.{the_link}
-use Rattle.world_core.specs.Wired.{EachItem, keeps_open, IsOnLink}
-use Rattle.world_core.specs.Agreement.{IsOnlyLink, HasOffers, GoesOn, IsShaken, IsCalm}
-use Rattle.world_core.proofs.Idle.{idle, on-link, same-fate, same-call, same-takes, same-completes}
-use Rattle.world_core.proofs.EntryItems.{each-append, each-reverse, each-more, items-are, items-open, below, below-is, below-calm, is_fate_or_up, fate-or-up-open, is_a_fate, fates-no-up, fates-only}
-use Rattle.world_core.proofs.Parts.{part-open, part-on, up-is, up-offered, news-up, raised, raised-none}
-use Rattle.world_core.proofs.Own.{grouped}
-use Rattle.world_core.proofs.Quiet.{spares, all-spared, landing-quiet, again-quiet, new-quiet, one-more, IsCallUp, AreCallsUp}
+use Rattle.world_core.specs.Wired.{EachItem, keeps_open}
+use Rattle.world_core.specs.Agreement.{GoesOn, IsShaken}
+use Rattle.world_core.proofs.Idle.{same-fate, same-call, same-takes, same-completes}
+use Rattle.world_core.proofs.EntryItems.{each-more, items-are, below, below-calm, is_fate_or_up, fate-or-up-open}
+use Rattle.world_core.proofs.Parts.{up-is, news-up, raised}
+use Rattle.world_core.proofs.Quiet.{all-spared, landing-quiet, again-quiet, new-quiet, one-more, IsCallUp, AreCallsUp}
 
 -- what an entry makes a connection do is one thing at most
 pub data DeedsAre (ds : List Item) : Type 0 where

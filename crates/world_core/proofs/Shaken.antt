@@ -1,33 +1,26 @@
 -- The handshake gives what the pipes need of it: the one link, the offers and the ends that come up.
-use Rattle.std.proofs.Common.{◌≡◌, ◌∙◌, ◌==◌, ◌⊎◌, inl, inr, ℕ, ◌+◌, ◌≤◌, ◌<◌, Bool, true, false, not, if◌then◌else◌, List, [], ◌∷◌, ◌++◌, length, filter, filter_map, refl, ap, sym, subst, ◌||◌, ◌&&◌, true≢false, arith, eqb-true, eq-eqb, append-nil, length-append}
-use Rattle.std.specs.Prelude.{Option, Some, None, is_some, option_map, option_and_then, unwrap_or}
+use Rattle.std.proofs.Common.{◌≡◌, ◌∙◌, ◌==◌, ◌⊎◌, inl, inr, ℕ, ◌+◌, ◌≤◌, Bool, true, false, if◌then◌else◌, List, [], ◌∷◌, ◌++◌, length, filter_map, refl, ap, sym, ◌&&◌, true≢false, arith, eqb-true, length-append}
+use Rattle.std.specs.Prelude.{Option, Some, None, is_some, unwrap_or}
 use Rattle.std.specs.Option.{option_or}
 use Rattle.std.proofs.lemmas.List.Elements.{filter_map-append}
 use Rattle.smc_num.specs.declared.Side.{Side}
 use Rattle.smc_num.specs.declared.Side.TheVariants.{A, B}
-use Rattle.smc_num.specs.declared.LinkId.{LinkId}
-use Rattle.smc_num.specs.Names.{other, same_side, same_link, head}
+use Rattle.smc_num.specs.Names.{same_side, head}
 use Rattle.smc_num.specs.Links.{link_at}
 use Rattle.pipe_model.specs.declared.setup.Setup.{Setup}
-use Rattle.pipe_model.specs.declared.event.Event.{Event}
-use Rattle.pipe_model.specs.declared.event.Event.TheVariants.{Clc as ClcEvent}
-use Rattle.pipe_model.specs.declared.post.Post.{Post}
 use Rattle.pipe_model.specs.declared.entry.Entry.{Entry}
 use Rattle.pipe_model.specs.History.{Offered, offered, offer_in}
-use Rattle.pipe_model.specs.Fabric.{Fabric, fabric, latest}
-use Rattle.pipe_model.specs.Wires.{is_dead}
+use Rattle.pipe_model.specs.Fabric.{Fabric, latest}
 use Rattle.pipe_model.specs.Lending.{lends, lendings}
-use Rattle.pipe_model.specs.Posts.{next_token, connection_posts}
-use Rattle.pipe_model.specs.Lawful.{draft, asked}
-use Rattle.world_core.specs.Played.{IsOneLink, IsBuilt, IsMade, IsPlayed}
+use Rattle.pipe_model.specs.Posts.{connection_posts}
+use Rattle.pipe_model.specs.Lawful.{draft}
+use Rattle.world_core.specs.Played.{IsMade}
 use Rattle.world_core.specs.OneLink.{the_link, Stage, NoLink, Begun, Made, Asking, LiveAtA, LiveAtBoth, fabric_at, is_made, IsAtStage}
-use Rattle.world_core.specs.Sockets.{Socket, Unopened, Fallen, Proposed, Refused, FirstAccepted, FirstConfirmed, AwaitsLink, FirstUpAtA, FirstUp, Accepted, AcceptRefused, AcceptFallen, Confirmed, Up, StandsAt, HasSocket, IsWorld, end_at, offered_at, up_at}
-use Rattle.world_core.specs.Agreement.{IsOnlyLink, HasOffers, GoesOn, IsShaken}
+use Rattle.world_core.specs.Sockets.{Socket, Unopened, Fallen, Proposed, Refused, FirstAccepted, FirstConfirmed, AwaitsLink, FirstUpAtA, FirstUp, Accepted, AcceptRefused, AcceptFallen, Confirmed, Up, offered_at, up_at}
+use Rattle.world_core.specs.Agreement.{IsOnlyLink}
 use Rattle.world_core.proofs.DataPosts.{connections-data, unseen-filter_map, no-offer}
-use Rattle.world_core.proofs.TakenMessages.{Goes}
-use Rattle.world_core.proofs.PlayedWorlds.{goes, played}
 use Rattle.world_core.proofs.Landings.{not-dead}
-use Rattle.world_core.proofs.NewOffers.{NoOffers, OneOffer, HasSocketAt, asked-offers}
+use Rattle.world_core.proofs.NewOffers.{NoOffers, OneOffer}
 
 -- the one link
 latest-at : (stage : Stage) → (link_at 1 (fabric_at stage).latest ≡ None) ⊎ ((link_at 1 (fabric_at stage).latest ≡ Some the_link) × (is_made stage ≡ true))
@@ -134,9 +127,9 @@ module _ (setup : Setup) (payload : List ℕ) (e : Entry) (past : List Entry) (b
   pub lends-more : (x : Side) → length (filter_map (lends x) D.posts) ≤ length (filter_map (lends x) e.posts)
   lends-more x =
       let q : filter_map (lends x) e.posts ≡ filter_map (lends x) D.posts ++ filter_map (lends x) (connection_posts setup payload D past) =
-          ap (λ ps. filter_map (lends x) ps) made.posts ∙ filter_map-append (lends x) D.posts (connection_posts setup payload D past) in
+      ap (λ ps. filter_map (lends x) ps) made.posts ∙ filter_map-append (lends x) D.posts (connection_posts setup payload D past) in
       let n : length (filter_map (lends x) e.posts) ≡ length (filter_map (lends x) D.posts) + length (filter_map (lends x) (connection_posts setup payload D past)) =
-          ap (λ ls. length ls) q ∙ length-append (filter_map (lends x) D.posts) (filter_map (lends x) (connection_posts setup payload D past)) in
+      ap (λ ls. length ls) q ∙ length-append (filter_map (lends x) D.posts) (filter_map (lends x) (connection_posts setup payload D past)) in
       omega (arith, n)
 
   -- nothing offered, or once

@@ -1,16 +1,14 @@
 -- The tokens of a side's offers count up, so that no two sockets share one.
-use Rattle.std.proofs.Common.{◌≡◌, ◌∙◌, ◌==◌, ◌⊎◌, inl, inr, ℕ, ◌+◌, ◌≤◌, ◌<◌, true, false, List, [], ◌∷◌, length, filter_map, refl, ap, sym, subst, arith}
-use Rattle.std.specs.Prelude.{Option, Some, None, is_some}
+use Rattle.std.proofs.Common.{◌≡◌, ◌∙◌, ◌⊎◌, inl, inr, ℕ, ◌+◌, ◌≤◌, ◌<◌, List, [], ◌∷◌, length, ap, sym, subst, arith}
+use Rattle.std.specs.Prelude.{Some}
 use Rattle.smc_num.specs.declared.Side.{Side}
-use Rattle.smc_num.specs.declared.Side.TheVariants.{A, B}
 use Rattle.pipe_model.specs.declared.setup.Setup.{Setup}
 use Rattle.pipe_model.specs.declared.entry.Entry.{Entry}
 use Rattle.pipe_model.specs.History.{Offered, offered}
-use Rattle.pipe_model.specs.Lending.{lends, lendings}
-use Rattle.pipe_model.specs.Posts.{next_token}
+use Rattle.pipe_model.specs.Lending.{lendings}
 use Rattle.pipe_model.specs.Lawful.{draft}
 use Rattle.world_core.specs.Played.{IsMade}
-use Rattle.world_core.proofs.NewOffers.{NoOffers, OneOffer}
+use Rattle.world_core.proofs.NewOffers.{OneOffer}
 use Rattle.world_core.proofs.Shaken.{Choice, offered-none, old-or-new, lendings-grow, lends-more, not-none}
 
 -- the tokens of offers count lendings
