@@ -39,6 +39,7 @@ pub mod Tokens
 pub mod Groups
 pub mod Rising
 pub mod Handshaken
+pub mod Batched
 pub mod TakenAnswers
 pub mod TakenMessages
 pub mod Verdicts

@@ -2,6 +2,7 @@ pub mod Agreement
 pub mod Connection
 pub mod OneLink
 pub mod Played
+pub mod Room
 pub mod Sockets
 pub mod Steps
 pub mod Views
