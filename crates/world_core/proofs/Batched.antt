@@ -1,5 +1,5 @@
 -- What is under way on a wire, LLC messages apart, are batches: of each three posts one at least is a CDC message.
-use Rattle.std.proofs.Common.{◌≡◌, ◌∙◌, ◌==◌, ◌⊎◌, inl, inr, ℕ, ◌+◌, ◌-◌, ◌*◌, ◌%◌, ◌≤◌, Bool, true, false, not, if◌then◌else◌, List, [], ◌∷◌, ◌++◌, length, take, drop, map, filter, refl, ap, sym, subst, ◌&&◌, true≢false, arith, append_assoc, append-nil, length-append, nat_le, take-append-drop}
+use Rattle.std.proofs.Common.{◌≡◌, ◌∙◌, ◌==◌, ◌⊎◌, inl, inr, ℕ, ◌+◌, ◌-◌, ◌*◌, ◌%◌, ◌≤◌, Bool, true, false, not, if◌then◌else◌, List, [], ◌∷◌, ◌++◌, length, take, drop, map, filter, refl, ap, sym, subst, ◌&&◌, true≢false, arith, append_assoc, append-nil, length-append, nat_le, take-append-drop, suc, zero}
 use Rattle.std.specs.Prelude.{Option, Some, None, cond}
 use Rattle.std.proofs.lemmas.List.{map-append}
 use Rattle.std.proofs.lemmas.List.Elements.{filter-append}
@@ -98,3 +98,103 @@ module _ (link : LinkId) (x : Side) where
   batch-ours size y o past m =
       let q = all-or-none ((same_side x y && same_link link m.link) && true) (Cdc y m.link (validation size o.offer.token m.snapshot)) (Cdc y m.link (validation size o.offer.token m.snapshot)) (Cdc y m.link (validation size o.offer.token m.snapshot)) 0 refl in
       check-by m.check _ _ q.0 (batch-by y m.link (m.from == m.snapshot.told) (nat_le (m.from % size + (m.snapshot.told - m.from)) size) _ _ _ _ _ _ _ _ _ (spelled size o.offer.token m.snapshot))
+
+-- posts without their places
+abbrev pub Posts : List Placed → List Post
+Posts cs = map (λ c. c.post) cs
+
+numbers-none : (entry first : ℕ) (ps : List Post) → Posts (numbered entry first ps) ≡ ps
+numbers-none entry first [] = refl
+numbers-none entry first (p ∷ ps) = ap (λ qs. p ∷ qs) (numbers-none entry (first + 1) ps)
+
+cond-posts : (b : Bool) (c : Placed) (cs : List Placed) (ps : List Post) → Posts cs ≡ ps → Posts (cond b (c ∷ cs) cs) ≡ cond b (c.post ∷ ps) ps
+cond-posts true c cs ps e = ap (λ qs. c.post ∷ qs) e
+cond-posts false c cs ps e = e
+
+posts-filter : (test : Post → Bool) (cs : List Placed) → Posts (filter (λ c. test c.post) cs) ≡ filter test (Posts cs)
+posts-filter test [] = refl
+posts-filter test (c ∷ cs) = cond-posts (test c.post) c (filter (λ d. test d.post) cs) (filter test (Posts cs)) (posts-filter test cs)
+
+posts-drop : (n : ℕ) (cs : List Placed) → Posts (drop n cs) ≡ drop n (Posts cs)
+posts-drop zero [] = refl
+posts-drop zero (c ∷ cs) = refl
+posts-drop (suc n) [] = refl
+posts-drop (suc n) (c ∷ cs) = posts-drop n cs
+
+posts-take : (n : ℕ) (cs : List Placed) → Posts (take n cs) ≡ take n (Posts cs)
+posts-take zero [] = refl
+posts-take zero (c ∷ cs) = refl
+posts-take (suc n) [] = refl
+posts-take (suc n) (c ∷ cs) = ap (λ qs. c.post ∷ qs) (posts-take n cs)
+
+filter-cond : (f g : Post → Bool) (b c : Bool) (p : Post) (ps qs : List Post) → g p ≡ c → filter g ps ≡ qs → filter g (cond b (p ∷ ps) ps) ≡ cond (b && c) (p ∷ qs) qs
+filter-cond f g true c p ps qs e h = ap (λ d. cond d (p ∷ filter g ps) (filter g ps)) e ∙ ap (λ rs. cond c (p ∷ rs) rs) h
+filter-cond f g false c p ps qs e h = h
+
+filter-twice : (f g : Post → Bool) (ps : List Post) → filter g (filter f ps) ≡ filter (λ p. f p && g p) ps
+filter-twice f g [] = refl
+filter-twice f g (p ∷ ps) = filter-cond f g (f p) (g p) p (filter f ps) (filter (λ q. f q && g q) ps) refl (filter-twice f g ps)
+
+filter-parts : (test : Post → Bool) (n : ℕ) (ps : List Post) → filter test (take n ps) ++ filter test (drop n ps) ≡ filter test ps
+filter-parts test n ps = sym (filter-append test (take n ps) (drop n ps)) ∙ ap (λ qs. filter test qs) (take-append-drop n ps)
+
+rejoin : (ps qs rs ss : List Post) → (ps ++ qs) ++ (rs ++ ss) ≡ (ps ++ (qs ++ rs)) ++ ss
+rejoin ps qs rs ss = sym (append_assoc (ps ++ qs) rs ss) ∙ ap (λ ts. ts ++ ss) (append_assoc ps qs rs)
+
+-- what is under way on a link, LLC messages apart, the oldest first
+module _ (link : LinkId) (x : Side) where
+  abbrev pub queue : List Entry → List Post
+  queue past = Posts (uncompleted link x past) ++ filter completes_later (Posts (unlanded link x past))
+
+  module _ (e : Entry) (past : List Entry) where
+    new-unlanded : Posts (unlanded link x (e ∷ past)) ≡ drop (leaving link x e past) (Posts (unlanded link x past)) ++ filter (is_on link x) e.posts
+    new-unlanded =
+        map-append (λ c. c.post) (drop (leaving link x e past) (unlanded link x past)) (filter (λ c. is_on link x c.post) (numbered (next_number past) 1 e.posts)) ∙
+        ap (λ ps. ps ++ Posts (filter (λ c. is_on link x c.post) (numbered (next_number past) 1 e.posts))) (posts-drop (leaving link x e past) (unlanded link x past)) ∙
+        ap (λ ps. drop (leaving link x e past) (Posts (unlanded link x past)) ++ ps) (posts-filter (is_on link x) (numbered (next_number past) 1 e.posts) ∙ ap (λ ps. filter (is_on link x) ps) (numbers-none (next_number past) 1 e.posts))
+
+    new-uncompleted : Posts (uncompleted link x (e ∷ past)) ≡ drop (completing_now link x e past) (Posts (uncompleted link x past)) ++ filter completes_later (take (landing_now link x e past) (Posts (unlanded link x past)))
+    new-uncompleted =
+        map-append (λ c. c.post) (drop (completing_now link x e past) (uncompleted link x past)) (filter (λ c. completes_later c.post) (take (landing_now link x e past) (unlanded link x past))) ∙
+        ap (λ ps. ps ++ Posts (filter (λ c. completes_later c.post) (take (landing_now link x e past) (unlanded link x past)))) (posts-drop (completing_now link x e past) (uncompleted link x past)) ∙
+        ap (λ ps. drop (completing_now link x e past) (Posts (uncompleted link x past)) ++ ps)
+        (posts-filter completes_later (take (landing_now link x e past) (unlanded link x past)) ∙ ap (λ ps. filter completes_later ps) (posts-take (landing_now link x e past) (unlanded link x past)))
+
+    abbrev Left : List Post
+    Left = drop (completing_now link x e past) (Posts (uncompleted link x past))
+
+    -- what lands stays in the queue
+    pub new-queue : landing_now link x e past ≡ leaving link x e past → queue (e ∷ past) ≡ (Left ++ filter completes_later (Posts (unlanded link x past))) ++ ours link x e.posts
+    new-queue same =
+        ap (λ ps. ps ++ filter completes_later (Posts (unlanded link x (e ∷ past)))) new-uncompleted ∙
+        ap (λ ps. (Left ++ filter completes_later (take (landing_now link x e past) (Posts (unlanded link x past)))) ++ filter completes_later ps) new-unlanded ∙
+        ap (λ ps. (Left ++ filter completes_later (take (landing_now link x e past) (Posts (unlanded link x past)))) ++ ps)
+        (filter-append completes_later (drop (leaving link x e past) (Posts (unlanded link x past))) (filter (is_on link x) e.posts) ∙
+            ap (λ ps. filter completes_later (drop (leaving link x e past) (Posts (unlanded link x past))) ++ ps) (filter-twice (is_on link x) completes_later e.posts)) ∙
+        ap (λ n. (Left ++ filter completes_later (take n (Posts (unlanded link x past)))) ++ (filter completes_later (drop (leaving link x e past) (Posts (unlanded link x past))) ++ ours link x e.posts)) same ∙
+        rejoin Left (filter completes_later (take (leaving link x e past) (Posts (unlanded link x past)))) (filter completes_later (drop (leaving link x e past) (Posts (unlanded link x past)))) (ours link x e.posts) ∙
+        ap (λ ps. (Left ++ ps) ++ ours link x e.posts) (filter-parts completes_later (leaving link x e past) (Posts (unlanded link x past)))
+
+    abbrev Later : List Post
+    Later = filter completes_later (Posts (unlanded link x past))
+
+    kept-left : (n : ℕ) → completing_now link x e past ≡ n → drop n (Posts (uncompleted link x past)) ≡ Left
+    kept-left n f = ap (λ k. drop k (Posts (uncompleted link x past))) (sym f)
+
+    left-batched : (payload : List ℕ) → Way payload link x e past → AreBatched (queue past) → AreBatched (Left ++ Later)
+    left-batched payload (inl w) b = let s = w.0 in subst (λ ps. AreBatched (ps ++ Later)) (sym (drop-none (Posts (uncompleted link x past))) ∙ kept-left 0 s.completes) b
+    left-batched payload (inr (inl w)) b = let l = w.0 in subst (λ ps. AreBatched (ps ++ Later)) (sym (drop-none (Posts (uncompleted link x past))) ∙ kept-left 0 l.completes) b
+    left-batched payload (inr (inr w)) b =
+        let l = w.0 in
+        let q : Posts (uncompleted link x past) ≡ Posts (l.first ∷ l.rest) = ap (λ cs. Posts cs) l.waiting in
+        let c = subst (λ ps. AreBatched (ps ++ Later)) q b in
+        subst (λ ps. AreBatched (ps ++ Later)) (sym (ap (λ ps. drop 1 ps) q ∙ drop-none (Posts l.rest)) ∙ kept-left 1 l.completes) c.1
+
+    same-leaves : (payload : List ℕ) → Way payload link x e past → landing_now link x e past ≡ leaving link x e past
+    same-leaves payload (inl w) = let s = w.0 in s.lands ∙ sym s.leaves
+    same-leaves payload (inr (inl w)) = let l = w.0 in l.lands ∙ sym l.leaves
+    same-leaves payload (inr (inr w)) = let l = w.0 in l.lands ∙ sym l.leaves
+
+    -- the queue stays batched
+    pub queue-step : (payload : List ℕ) → Way payload link x e past → AreBatched (ours link x e.posts) → AreBatched (queue past) → AreBatched (queue (e ∷ past))
+    queue-step payload w o b = subst (λ ps. AreBatched ps) (sym (new-queue (same-leaves payload w))) (batched-append (Left ++ Later) (ours link x e.posts) (left-batched payload w b) o)
