@@ -23,7 +23,7 @@ use Rattle.pipe_model.specs.Lawful.{draft, asked}
 use Rattle.world_core.specs.Played.{IsMade, IsPlayed}
 use Rattle.world_core.specs.WireSteps.{leaving, landing_now, completing_now, Stays, LandsNow, CompletesNow, Way, EachPost}
 use Rattle.world_core.specs.Agreement.{PostsOne, PostsFew}
-use Rattle.world_core.proofs.AskedPosts.{IsNoCdc, asked-no-cdc}
+use Rattle.world_core.proofs.AskedPosts.{IsControl, asked-control}
 use Rattle.world_core.proofs.Carrying.{drop-none, take-none}
 
 -- how many CDC messages there are
@@ -111,7 +111,7 @@ cond-posts : (b : Bool) (c : Placed) (cs : List Placed) (ps : List Post) → Pos
 cond-posts true c cs ps e = ap (λ qs. c.post ∷ qs) e
 cond-posts false c cs ps e = e
 
-posts-filter : (test : Post → Bool) (cs : List Placed) → Posts (filter (λ c. test c.post) cs) ≡ filter test (Posts cs)
+pub posts-filter : (test : Post → Bool) (cs : List Placed) → Posts (filter (λ c. test c.post) cs) ≡ filter test (Posts cs)
 posts-filter test [] = refl
 posts-filter test (c ∷ cs) = cond-posts (test c.post) c (filter (λ d. test d.post) cs) (filter test (Posts cs)) (posts-filter test cs)
 

@@ -40,6 +40,7 @@ pub mod Groups
 pub mod Rising
 pub mod Handshaken
 pub mod Batched
+pub mod Counts
 pub mod TakenAnswers
 pub mod TakenMessages
 pub mod Verdicts
