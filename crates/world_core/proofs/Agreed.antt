@@ -58,7 +58,7 @@ each-both (i ∷ is) p q = (both-pass i p.0 q.0, each-both is p.1 q.1)
 pub fate-or-up-no-message : (item : Item) → is_fate_or_up item ≡ true → is_no_message item ≡ true
 fate-or-up-no-message item e = both-pass item (fate-or-up-passes A item e) (fate-or-up-passes B item e)
 
-each-drop : (P : Sent → Type 0) (n : ℕ) (ms : List Sent) → EachOf P ms → EachOf P (drop n ms)
+pub each-drop : (P : Sent → Type 0) (n : ℕ) (ms : List Sent) → EachOf P ms → EachOf P (drop n ms)
 each-drop P zero [] e = tt
 each-drop P zero (m ∷ ms) e = e
 each-drop P (suc n) [] e = tt

@@ -82,7 +82,7 @@ module _ (setup : Setup) (one : IsOneLink setup) (payload : List ℕ) (x : Side)
       queue-step the_link x e past payload (way payload past e setup p.0 x (only-link setup w.stage past world.link) p.1) (new-batched e past n p) (queue-batched past p.0 p.3)
 
 -- LLC messages that have not landed: one at most
-few-waiting : (setup : Setup) (x : Side) (stage : Stage) → length (waiting_at setup x stage) ≤ 1
+pub few-waiting : (setup : Setup) (x : Side) (stage : Stage) → length (waiting_at setup x stage) ≤ 1
 few-waiting setup A NoLink = omega arith
 few-waiting setup B NoLink = omega arith
 few-waiting setup A (Begun s) = omega arith
@@ -120,7 +120,7 @@ all-under-way link x past =
     omega (arith, a, b, d, e, f, g)
 
 -- sums
-sum-more : (f g : ℕ → ℕ) (n : ℕ) → ((s : ℕ) → f s ≤ g s) → sum_below f n ≤ sum_below g n
+pub sum-more : (f g : ℕ → ℕ) (n : ℕ) → ((s : ℕ) → f s ≤ g s) → sum_below f n ≤ sum_below g n
 sum-more f g zero l = omega arith
 sum-more f g (suc n) l = let a = sum-more f g n l in let b = l n in omega (arith, a, b)
 
@@ -143,11 +143,11 @@ sum-one f g (suc n) s0 l m o = sum-last f g n s0 l m o (λ i. sum-one f g n s0 l
 
 -- a CDC message is one of some end
 module _ (x : Side) (past : List Entry) (n : ℕ) where
-  abbrev count_for : Option Offered → List Placed → ℕ
+  abbrev pub count_for : Option Offered → List Placed → ℕ
   count_for None cs = 0
   count_for (Some o) cs = length (cdcs x o.offer.token cs)
 
-  abbrev Known : Placed → Type 0
+  abbrev pub Known : Placed → Type 0
   Known c = (from : Side) (l : LinkId) (m : CdcMessage) → c.post ≡ Cdc from l m → (s : ℕ) × ((s < n) × ((o : Offered) × ((offered (other x) s past ≡ Some o) × (cdc_under x o.offer.token c.post ≡ Some m))))
 
   one-more-by : (o : Option CdcMessage) (ms : List CdcMessage) → length ms ≤ length (cons_option o ms)

@@ -41,6 +41,7 @@ pub mod Rising
 pub mod Handshaken
 pub mod Batched
 pub mod Counts
+pub mod LinkRoom
 pub mod TakenAnswers
 pub mod TakenMessages
 pub mod Verdicts
