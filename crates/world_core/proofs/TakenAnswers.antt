@@ -27,7 +27,7 @@ use Rattle.world_core.proofs.Verdicts.{OnAccept, joins, on-confirm, on-first, on
 use Rattle.world_core.proofs.LinkMoves.{asks-to-confirm, makes-link, still-confirm, still-fall, still-refusal-a, still-up}
 use Rattle.pipe_model.specs.declared.post.Post.{Post}
 use Rattle.pipe_model.specs.declared.setup.Setup.{Setup}
-use Rattle.world_core.specs.Sockets.{AcceptFallen, AcceptRefused, Accepted, AwaitsLink, Confirmed, Fallen, FirstAccepted, FirstConfirmed, IsOffer, IsWorld, Proposed, Refused, Socket, StandsAt, Up, has_not_lent, offered_at, on_link, suits}
+use Rattle.world_core.specs.Sockets.{AcceptFallen, AcceptRefused, Accepted, AwaitsLink, Confirmed, Fallen, FirstAccepted, FirstConfirmed, IsOffer, IsWorld, Proposed, Refused, Socket, StandsAt, Up, has_not_lent, offered_at, on_link, suits, HasWorld}
 use Rattle.world_core.proofs.Handshakes.{asks-link, comes-up-later, confirms-first, confirms-later, falls-at-a, falls-at-b, offer-of, refuses-accept}
 use Rattle.smc_num.specs.declared.LinkId.{LinkId}
 use Rattle.world_core.proofs.Offers.{has-free, new-is-offer, none-lent, unlent-free}
@@ -36,12 +36,12 @@ use Rattle.std.specs.Prelude.{List, None, Option, Some, [], false, filter_map, i
 use Rattle.pipe_model.specs.Lending.{free_places, lends}
 use Rattle.pipe_model.specs.Messages.{confirm_link, pair_on, refusal}
 use Rattle.world_core.proofs.ClcMoves.{clc-is-apart, clc-world, keeps-same, link-still, llc-is-apart, none-apart}
-use Rattle.world_core.proofs.TakenMessages.{Goes, asking-suits, begun-with, idle, is-this, lent-none, live-with, made-suits, made-with, on-a-proposal, told-is, unoffered-alike, is-taken}
+use Rattle.world_core.proofs.TakenMessages.{asking-suits, begun-with, idle, is-this, lent-none, live-with, made-suits, made-with, on-a-proposal, told-is, unoffered-alike, is-taken}
 use Rattle.clc_wire.specs.declared.offer.Offer.{Offer}
 
 module _ (setup : Setup) (one : IsOneLink setup) (payload : List ℕ) (actor t : ℕ) (older : List Entry) where
   abbrev GoesWith : Side → Reply → List Post → Type 0
-  GoesWith dir reply posts = Goes setup (entry-of actor (ClcEvent t dir) reply posts ∷ older)
+  GoesWith dir reply posts = HasWorld setup (entry-of actor (ClcEvent t dir) reply posts ∷ older)
 
   -- the link that the Accept on the socket names
   named : (k : Socket) (o : Offer) → StandsAt setup k t older → offered_at k B ≡ on_link o → unwrap_or (named_link t older) no_link ≡ the_link

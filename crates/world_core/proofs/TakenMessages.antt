@@ -1,5 +1,5 @@
 -- A side that takes a CLC message in a world of one link leads it to the next world.
-use Rattle.world_core.specs.Sockets.{suits}
+use Rattle.world_core.specs.Sockets.{suits, HasWorld}
 use Rattle.world_core.proofs.QuietEvents.{quiet-idle-clc, quiet-held-clc}
 use Rattle.pipe_model.specs.Messages.{refusal}
 use Rattle.std.proofs.Common.{◌≡◌, ap, inl, refl, subst, sym, ◌∙◌}
@@ -43,11 +43,6 @@ use Rattle.smc_num.specs.Places.{Place}
 use Rattle.world_core.proofs.LinkMoves.{begins-link, still-accept, still-refusal-b}
 use Rattle.world_core.proofs.Handshakes.{accepts-first, accepts-later, refuses-proposal}
 
--- some world after a history
-pub record Goes (setup : Setup) (past : List Entry) : Type 0 where
-  pub stage : Stage
-  pub world : IsWorld setup stage past
-
 -- a message that is taken, with the verdict on it
 pub record Takes (setup : Setup) (payload : List ℕ) (t : ℕ) (dir : Side) (older : List Entry) (m : ClcMessage) (step : ClcStep) : Type 0 where
   pub reply : clc_told setup payload t dir older ≡ step_told (group_on t older) m step
@@ -89,7 +84,7 @@ is-taken setup payload k t dir older m step at waits first e =
     }
 
 -- at which step of the link a socket of first contact is
-not-both : (b : Bool) → (if b then false else false) ≡ true → ⊥
+pub not-both : (b : Bool) → (if b then false else false) ≡ true → ⊥
 not-both true e = cc
 not-both false e = cc
 
@@ -165,28 +160,28 @@ module _ (setup : Setup) (one : IsOneLink setup) (payload : List ℕ) (actor t :
   same = eq-eqb t t refl
 
   -- an entry with this reply and these posts
-  pub is-this : (dir : Side) (reply told : Reply) (posts given : List Post) → reply ≡ told → posts ≡ given → Goes setup (entry-of actor (ClcEvent t dir) told given ∷ older) → Goes setup (entry-of actor (ClcEvent t dir) reply posts ∷ older)
+  pub is-this : (dir : Side) (reply told : Reply) (posts given : List Post) → reply ≡ told → posts ≡ given → HasWorld setup (entry-of actor (ClcEvent t dir) told given ∷ older) → HasWorld setup (entry-of actor (ClcEvent t dir) reply posts ∷ older)
   is-this dir reply told posts given e f g =
-      subst (λ (r : Reply). Goes setup (entry-of actor (ClcEvent t dir) r posts ∷ older)) (sym e) (subst (λ (ps : List Post). Goes setup (entry-of actor (ClcEvent t dir) told ps ∷ older)) (sym f) g)
+      subst (λ (r : Reply). HasWorld setup (entry-of actor (ClcEvent t dir) r posts ∷ older)) (sym e) (subst (λ (ps : List Post). HasWorld setup (entry-of actor (ClcEvent t dir) told ps ∷ older)) (sym f) g)
 
-  pub goes-quiet : (stage : Stage) (d : Entry) → IsWorld setup stage older → IsQuiet d older → Goes setup (d ∷ older)
+  pub goes-quiet : (stage : Stage) (d : Entry) → IsWorld setup stage older → IsQuiet d older → HasWorld setup (d ∷ older)
   goes-quiet stage d w q = record { stage = stage; world = world-same setup stage (d ∷ older) older (shows-quiet setup stage d older w.link q) w }
 
   pub idle : (stage : Stage) (dir : Side) (reply : Reply) (posts : List Post) → IsWorld setup stage older → reply ≡ clc_told setup payload t dir older → posts ≡ asked setup payload older (ClcEvent t dir) reply
-      → clc_told setup payload t dir older ≡ Idle → Goes setup (entry-of actor (ClcEvent t dir) reply posts ∷ older)
+      → clc_told setup payload t dir older ≡ Idle → HasWorld setup (entry-of actor (ClcEvent t dir) reply posts ∷ older)
   idle stage dir reply posts w r p e =
       let told : reply ≡ Idle = r ∙ e in
       is-this dir reply Idle posts [] told (p ∙ ap (λ (q : Reply). asked setup payload older (ClcEvent t dir) q) told) (goes-quiet stage (entry-of actor (ClcEvent t dir) Idle []) w (quiet-idle-clc actor older t dir))
 
   -- B takes a Proposal
   pub on-a-proposal : (stage : Stage) (reply : Reply) (posts : List Post) → IsWorld setup stage older → StandsAt setup Proposed t older → suits stage t Proposed ≡ true
-      → reply ≡ clc_told setup payload t A older → posts ≡ asked setup payload older (ClcEvent t A) reply → Goes setup (entry-of actor (ClcEvent t A) reply posts ∷ older)
+      → reply ≡ clc_told setup payload t A older → posts ≡ asked setup payload older (ClcEvent t A) reply → HasWorld setup (entry-of actor (ClcEvent t A) reply posts ∷ older)
   on-a-proposal stage reply posts w at suit r p = by_verdict (on-proposal setup one payload older stage w.link (proposal setup))
     where
       taken : (step : ClcStep) → on_proposal false (proposal setup) (lacks setup payload B older) ≡ step → Takes setup payload t A older (ProposalMessage (proposal setup)) step
       taken step e = is-taken setup payload Proposed t A older (ProposalMessage (proposal setup)) step at refl refl e
 
-      begin : IsWorld setup NoLink older → (q : Place) → IsFree setup payload B older q → on_proposal false (proposal setup) (lacks setup payload B older) ≡ SendAccept true → Goes setup (entry-of actor (ClcEvent t A) reply posts ∷ older)
+      begin : IsWorld setup NoLink older → (q : Place) → IsFree setup payload B older q → on_proposal false (proposal setup) (lacks setup payload B older) ≡ SendAccept true → HasWorld setup (entry-of actor (ClcEvent t A) reply posts ∷ older)
       begin w2 q free e =
           let k = taken (SendAccept true) e in
           let told : reply ≡ Sent AcceptSent = r ∙ k.reply in
@@ -203,7 +198,7 @@ module _ (setup : Setup) (one : IsOneLink setup) (payload : List ℕ) (actor t :
                 (by-side (λ x. has_not_lent x (Begun t) ≡ true → (has_not_lent x NoLink ≡ true) × (filter_map (lends x) (Clc B t (Some the_link) (AcceptMessage o) ∷ []) ≡ [])) (λ h. (refl, refl)) (λ h. cc));
           })
 
-      join : (u : ℕ) → IsWorld setup (LiveAtBoth u) older → suits (LiveAtBoth u) t Proposed ≡ true → (q : Place) → IsFree setup payload B older q → on_proposal false (proposal setup) (lacks setup payload B older) ≡ SendAccept false → Goes setup (entry-of actor (ClcEvent t A) reply posts ∷ older)
+      join : (u : ℕ) → IsWorld setup (LiveAtBoth u) older → suits (LiveAtBoth u) t Proposed ≡ true → (q : Place) → IsFree setup payload B older q → on_proposal false (proposal setup) (lacks setup payload B older) ≡ SendAccept false → HasWorld setup (entry-of actor (ClcEvent t A) reply posts ∷ older)
       join u w2 suit2 q free e =
           let k = taken (SendAccept false) e in
           let told : reply ≡ Sent AcceptSent = r ∙ k.reply in
@@ -221,7 +216,7 @@ module _ (setup : Setup) (one : IsOneLink setup) (payload : List ℕ) (actor t :
                 (by-side (λ x. has_not_lent x (LiveAtBoth u) ≡ true → (has_not_lent x (LiveAtBoth u) ≡ true) × (filter_map (lends x) (Clc B t (Some the_link) (AcceptMessage o) ∷ []) ≡ [])) (λ h. cc) (λ h. cc));
           })
 
-      by_verdict : OnProposal stage (length (free_places setup payload B older) == 0) (on_proposal false (proposal setup) (lacks setup payload B older)) → Goes setup (entry-of actor (ClcEvent t A) reply posts ∷ older)
+      by_verdict : OnProposal stage (length (free_places setup payload B older) == 0) (on_proposal false (proposal setup) (lacks setup payload B older)) → HasWorld setup (entry-of actor (ClcEvent t A) reply posts ∷ older)
       by_verdict (refuses lack e) =
           let k = taken (Decline lack) e in
           let told : reply ≡ Declined lack = r ∙ k.reply in
