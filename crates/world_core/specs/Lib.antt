@@ -1,4 +1,5 @@
 pub mod Connection
+pub mod Lent
 pub mod OneLink
 pub mod Played
 pub mod Sockets
