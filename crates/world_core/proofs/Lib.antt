@@ -4,6 +4,7 @@ pub mod DataPosts
 pub mod Handshakes
 pub mod InHistory
 pub mod Landings
+pub mod LendingFacts
 pub mod LinkFacts
 pub mod LinkMoves
 pub mod Lists
