@@ -120,7 +120,7 @@ finds-each [] h = tt
 finds-each (l ∷ ls) h = (
   ap (λ b. cond b (Some l) (find (λ m. m.s == l.s) ls)) (eq-eqb l.s l.s refl),
   each-two (λ m. (m.s == l.s) ≡ false) (λ m. find (λ k. k.s == m.s) ls ≡ Some m) (λ m. find (λ k. k.s == m.s) (l ∷ ls) ≡ Some m)
-  (λ m apart found. ap (λ b. cond b (Some l) (find (λ k. k.s == m.s) ls)) (turned l.s m.s apart) ∙ found) ls h.0 (finds-each ls h.1),
+      (λ m apart found. ap (λ b. cond b (Some l) (find (λ k. k.s == m.s) ls)) (turned l.s m.s apart) ∙ found) ls h.0 (finds-each ls h.1),
 )
 
 -- each offer is on the link
@@ -206,9 +206,6 @@ module _ (setup : Setup) (one : IsOneLink setup) (payload : List ℕ) (x : Side)
   rmbs : (y : Side) → rmbs_of setup y ≡ 1
   rmbs A = one.rmbs_a
   rmbs B = one.rmbs_b
-
-
-
 
   pub lendings-on : (n : ℕ) (stage : Stage) → IsWorld setup stage (e ∷ older) → IsBuilt setup n e.event → Begins setup payload x e older → AreLendings setup payload x older → AreLendings setup payload x (e ∷ older)
   lendings-on n stage w built (BeginsNone none) a =

@@ -14,6 +14,7 @@ pub mod Openings
 pub mod PlayedWorlds
 pub mod QuietEvents
 pub mod Sound
+pub mod StillLent
 pub mod TakenAnswers
 pub mod TakenMessages
 pub mod Verdicts

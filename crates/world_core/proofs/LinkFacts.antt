@@ -254,11 +254,10 @@ pub up-knows-key : (setup : Setup) (stage : Stage) (past : List Entry) → IsWor
 up-knows-key setup stage [] w x s up = cc
 up-knows-key setup stage (e ∷ older) w x s up =
     let at = w.link in
-    let k = known-at stage x (live-where-up setup stage (e ∷ older) w x s up) in
-    (
+    let k = known-at stage x (live-where-up setup stage (e ∷ older) w x s up) in (
       ap (λ (ks : List Key). bound 1 the_link ks) (at.book x ∙ k.0) ∙ bound-at (other x),
       ap (λ (ks : Keys). option_or (bound 1 the_link ks.keys) (last_bound (other x) 1 the_link older)) (at.keys (other x) ∙ k.1)
-      ∙ ap (λ (o : Option ℕ). option_or o (last_bound (other x) 1 the_link older)) (bound-at (other x)),
+          ∙ ap (λ (o : Option ℕ). option_or o (last_bound (other x) 1 the_link older)) (bound-at (other x)),
     )
 
 -- no message waits for an end that is up

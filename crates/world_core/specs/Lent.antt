@@ -19,7 +19,7 @@ use Rattle.world_core.specs.Sockets.{IsWorld, on_link}
 pub data Begins (setup : Setup) (payload : List ℕ) (x : Side) (e : Entry) (older : List Entry) : Type 0 where
   BeginsNone : filter_map (lends x) e.posts ≡ [] → Begins setup payload x e older
   BeginsOne : (s : ℕ) (dir : Side) (o : Offer) → e.event ≡ ClcEvent s dir → filter_map (lends x) e.posts ≡ lends_by s the_link o ∷ [] → offered x s older ≡ None
-    → head (free_places setup payload x older) ≡ Some (offered_place o) → o.token ≡ next_token x older → Begins setup payload x e older
+      → head (free_places setup payload x older) ≡ Some (offered_place o) → o.token ≡ next_token x older → Begins setup payload x e older
 
 -- an entry leads to a world
 pub record LeadsOn (setup : Setup) (payload : List ℕ) (e : Entry) (older : List Entry) : Type 0 where

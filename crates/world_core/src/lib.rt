@@ -10,7 +10,14 @@
 #![tactic(auto)]
 
 mod connection;
+mod laws;
 mod world;
 
+pub use laws::{
+    a_lending_is_where_an_offer_is, an_end_that_is_up_has_offers, an_end_that_is_up_knows_the_key,
+    ends_are_at_the_step_of_their_socket, lendings_are_apart, lendings_are_few, no_group_ends,
+    no_message_waits_for_an_end_that_is_up, the_link_and_the_sockets_are_somewhere,
+    the_link_is_not_dead, tokens_tell_sockets_apart,
+};
 pub use pipe_model::StepFault;
 pub use world::{NewFault, World};
