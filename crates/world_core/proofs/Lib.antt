@@ -17,4 +17,5 @@ pub mod Sound
 pub mod StillLent
 pub mod TakenAnswers
 pub mod TakenMessages
+pub mod UpEnds
 pub mod Verdicts
