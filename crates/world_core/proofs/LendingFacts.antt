@@ -33,11 +33,11 @@ use Rattle.pipe_model.specs.Lending.{Lending, lendings, lends, lends_by, lent_pl
 use Rattle.world_core.specs.Sockets.{AcceptFallen, AcceptRefused, Accepted, AwaitsLink, Confirmed, Fallen, FirstAccepted, FirstConfirmed, FirstUp, FirstUpAtA, IsWorld, Proposed, Refused, Socket, Unopened, Up, offered_at, on_link}
 
 -- each lending of a list
-each-map : (P Q : Lending → Type 0) → ((l : Lending) → P l → Q l) → (ls : List Lending) → EachLending P ls → EachLending Q ls
+pub each-map : (P Q : Lending → Type 0) → ((l : Lending) → P l → Q l) → (ls : List Lending) → EachLending P ls → EachLending Q ls
 each-map P Q f [] a = tt
 each-map P Q f (l ∷ ls) a = (f l a.0, each-map P Q f ls a.1)
 
-each-two : (P Q R : Lending → Type 0) → ((l : Lending) → P l → Q l → R l) → (ls : List Lending) → EachLending P ls → EachLending Q ls → EachLending R ls
+pub each-two : (P Q R : Lending → Type 0) → ((l : Lending) → P l → Q l → R l) → (ls : List Lending) → EachLending P ls → EachLending Q ls → EachLending R ls
 each-two P Q R f [] a b = tt
 each-two P Q R f (l ∷ ls) a b = (f l a.0 b.0, each-two P Q R f ls a.1 b.1)
 
@@ -61,11 +61,11 @@ each-filter P f (l ∷ ls) a = by_test (f l) (each-filter P f ls a.1)
     by_test true r = (a.0, r)
     by_test false r = r
 
-turned : (a b : ℕ) → (b == a) ≡ false → (a == b) ≡ false
+pub turned : (a b : ℕ) → (b == a) ≡ false → (a == b) ≡ false
 turned a b e = ne_eqb a b (λ same. let t = eq-eqb b a (sym same) in let wrong : true ≡ false = sym t ∙ e in cc)
 
 -- the lending that is found by its socket
-find-append : (f : Lending → Bool) (ls ms : List Lending) → find f (ls ++ ms) ≡ option_or (find f ls) (find f ms)
+pub find-append : (f : Lending → Bool) (ls ms : List Lending) → find f (ls ++ ms) ≡ option_or (find f ls) (find f ms)
 find-append f [] ms = refl
 find-append f (l ∷ ls) ms = by_test (f l) (find-append f ls ms)
   where
@@ -90,7 +90,7 @@ met-offer s t link o ls qs rest = by_test (s == t) refl
         ap (λ b. cond b (Some (lends_by t link o)) (find (λ l. l.s == s) ls)) (eq-eqb t s (sym same)) ∙ ap (λ n. Some (lends_by n link o)) (sym same)
     by_test false e = ap (λ b. cond b (Some (lends_by t link o)) (find (λ l. l.s == s) ls)) (turned t s e) ∙ rest
 
-found-in : (x : Side) (s : ℕ) (ps : List Post) → find (λ l. l.s == s) (filter_map (lends x) ps) ≡ option_map (lends-for s) (head (filter_map (offer_in x s) ps))
+pub found-in : (x : Side) (s : ℕ) (ps : List Post) → find (λ l. l.s == s) (filter_map (lends x) ps) ≡ option_map (lends-for s) (head (filter_map (offer_in x s) ps))
 found-in x s [] = refl
 found-in B s (Clc B t (Some link) (AcceptMessage o) ∷ ps) = met-offer s t link o (filter_map (lends B) ps) (filter_map (offer_in B s) ps) (found-in B s ps)
 found-in A s (Clc A t (Some link) (ConfirmMessage o) ∷ ps) = met-offer s t link o (filter_map (lends A) ps) (filter_map (offer_in A s) ps) (found-in A s ps)

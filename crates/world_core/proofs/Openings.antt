@@ -99,7 +99,7 @@ module _ (setup : Setup) (actor t : ℕ) (older : List Entry) where
   }
 
   -- another socket
-  early-apart : (x : Side) (s : ℕ) (reply : Reply) (state : EndState) → (s == t) ≡ false → after_event x s (Open t) reply state ≡ state
+  pub early-apart : (x : Side) (s : ℕ) (reply : Reply) (state : EndState) → (s == t) ≡ false → after_event x s (Open t) reply state ≡ state
   early-apart A s Opened state e = ap (λ b. if b then WaitsAnswer else state) e
   early-apart B s Opened state e = ap (λ b. if b then WaitsProposal else state) e
   early-apart A s (Declined lack) state e = ap (λ b. if b then HasFallen else state) e

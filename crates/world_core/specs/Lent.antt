@@ -9,7 +9,7 @@ use Rattle.pipe_model.specs.declared.event.Event.TheVariants.{Clc as ClcEvent}
 use Rattle.pipe_model.specs.declared.setup.Setup.{Setup}
 use Rattle.pipe_model.specs.declared.entry.Entry.{Entry}
 use Rattle.pipe_model.specs.History.{offered}
-use Rattle.pipe_model.specs.Lending.{Lending, lends_by, lends, lendings, lent, free_places}
+use Rattle.pipe_model.specs.Lending.{Lending, lends_by, lends, lendings, lent, free_places, is_over_on}
 use Rattle.pipe_model.specs.Posts.{next_token, offered_place}
 use Rattle.world_core.specs.OneLink.{the_link, Stage}
 use Rattle.world_core.specs.Sockets.{IsWorld, on_link}
@@ -58,3 +58,9 @@ pub record AreLendings (setup : Setup) (payload : List ℕ) (x : Side) (past : L
   pub few : EachLending (λ l. l.s < setup.sockets) (lendings x past)
   pub offers : EachLending (IsOfOffer x past) (lendings x past)
   pub places : HavePlaces (lent setup payload x past)
+
+-- no end of a lending was ever over
+abbrev pub WasNeverOver : Setup → List ℕ → Side → List Entry → Type 0
+WasNeverOver setup payload x [] = Unit {0}
+WasNeverOver setup payload x (e ∷ older) =
+    ((s : ℕ) (o : Offer) → offered x s (e ∷ older) ≡ on_link o → is_over_on setup payload x (lends_by s the_link o) (e ∷ older) ≡ false) × WasNeverOver setup payload x older
