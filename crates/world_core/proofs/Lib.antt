@@ -13,6 +13,7 @@ pub mod Offers
 pub mod Openings
 pub mod PlayedWorlds
 pub mod QuietEvents
+pub mod Records
 pub mod Sound
 pub mod StillLent
 pub mod TakenAnswers
