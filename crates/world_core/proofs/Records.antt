@@ -11,9 +11,9 @@ use Rattle.world_core.proofs.StillLent.{fallen-end, lent-or-fell}
 use Rattle.pipe_model.specs.declared.setup.Setup.{Setup}
 use Rattle.world_core.proofs.PlayedWorlds.{played}
 use Rattle.pipe_model.specs.Lending.{Lending, lends_by, record_of}
-use Rattle.world_core.specs.OneLink.{Asking, Begun, LiveAtA, LiveAtBoth, Made, NoLink, Stage, the_link}
+use Rattle.world_core.specs.OneLink.{Asking, Begun, LiveAtA, LiveAtBoth, Made, NoLink, Stage, the_link, is_of_first}
 use Rattle.pipe_model.specs.History.{Offered, offered}
-use Rattle.world_core.proofs.LendingFacts.{each-map, played-lendings, sub-lent, tokens-tell}
+use Rattle.world_core.proofs.LendingFacts.{each-map, played-lendings, sub-lent, tokens-tell, offer-on-link}
 use Rattle.world_core.specs.Sockets.{AwaitsLink, Fallen, FirstAccepted, FirstConfirmed, FirstUp, FirstUpAtA, IsOffer, IsWorld, Proposed, Refused, Socket, Unopened, first_step, is_first, is_unoffered, on_link, suits}
 use Rattle.world_core.specs.Played.{IsOneLink, IsPlayed}
 use Rattle.world_core.specs.Lent.{AreLendings, EachLending, IsOfOffer, WasNeverOver}
@@ -74,8 +74,8 @@ still-lent setup one payload past n p x never s o e not_fallen =
     let w = g.world in
     let h = w.sockets s in
     elim (lent-or-fell setup one payload past n p x never s o e) [
-      inl found ↦ (found, record-is setup payload x past (played-lendings setup one payload past n p x) s o e found)
-    | inr fell ↦ absurd (let yes_fallen : true ≡ false = sym (ap is_fallen_state (fallen-end setup h.at s past x h.stands fell)) ∙ not_fallen in cc)
+      | inl found ↦ (found, record-is setup payload x past (played-lendings setup one payload past n p x) s o e found)
+      | inr fell ↦ absurd (let yes_fallen : true ≡ false = sym (ap is_fallen_state (fallen-end setup h.at s past x h.stands fell)) ∙ not_fallen in cc)
     ]
 
 -- which offers are marked as first
@@ -106,15 +106,6 @@ by-socket : (b : Bool) (k : Socket) (n : ℕ) (v : Bool) → (if b then first_st
 by-socket true k n v e f = first-step-is k n e
 by-socket false k n v e f = f e
 
--- the socket of first contact, where there is one
-abbrev pub is_of_first : Stage → ℕ → Bool
-is_of_first NoLink s = false
-is_of_first (Begun t) s = s == t
-is_of_first (Made t) s = s == t
-is_of_first (Asking t qp) s = s == t
-is_of_first (LiveAtA t qp) s = s == t
-is_of_first (LiveAtBoth t) s = s == t
-
 first-where : (stage : Stage) (s : ℕ) (k : Socket) → suits stage s k ≡ true → is_first k ≡ is_of_first stage s
 first-where NoLink s k e = not-first k e
 first-where (Begun t) s k e = by-socket (s == t) k 0 (is_unoffered k) e (not-first k)
@@ -128,3 +119,8 @@ offer-facts setup stage past w x s o e =
     let h = w.sockets s in
     let at = h.stands in
     subst (λ first. IsOffer setup x first o) (first-where stage s h.at h.suits_is) (at.offers x (record { link = the_link; offer = o }) (sym (at.offer x) ∙ e))
+
+pub all-offers : (setup : Setup) (stage : Stage) (past : List Entry) → IsWorld setup stage past → (x : Side) (s : ℕ) (q : Offered) → offered x s past ≡ Some q → (q.link ≡ the_link) × IsOffer setup x (is_of_first stage s) q.offer
+all-offers setup stage past w x s q e =
+    let link = offer-on-link setup stage past w x s q e in
+    (link, offer-facts setup stage past w x s q.offer (e ∙ ap (λ n. let r : Offered = record { link = n; offer = q.offer } in Some r) link))
