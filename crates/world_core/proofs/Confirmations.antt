@@ -122,7 +122,7 @@ module _ (setup : Setup) (actor t qp : ℕ) (older : List Entry) (c : Placed) wh
   link-at-a n at first is gone =
       let known : post_at c.at older ≡ Some c.post = first-waiting-in the_link B older c first in
       let acts : act_in A (entry-of actor (Deliver 1 B) (Landed c.at) (Llc A the_link (answer n) ∷ [])) older ≡ Some (record { link = the_link; message = request; step = Live true true }) =
-          ap (λ o. act_of A o older) known ∙ act-a at is in
+      ap (λ o. act_of A o older) known ∙ act-a at is in
       record {
         path = refl;
         cuts_none = refl;
@@ -148,7 +148,7 @@ module _ (setup : Setup) (actor t qp : ℕ) (older : List Entry) (c : Placed) wh
   link-at-b at first is gone =
       let known : post_at c.at older ≡ Some c.post = first-waiting-in the_link A older c first in
       let acts : act_in B (entry-of actor (Deliver 1 A) (Landed c.at) []) older ≡ Some (record { link = the_link; message = answer qp; step = Live false true }) =
-          ap (λ o. act_of B o older) known ∙ act-b at is in
+      ap (λ o. act_of B o older) known ∙ act-b at is in
       record {
         path = refl;
         cuts_none = refl;

@@ -79,8 +79,8 @@ pub connections-data : (setup : Setup) (payload : List ℕ) (e : Entry) (past : 
 connections-data setup payload e past =
     data-flat (λ s. pipe_posts setup payload s e past)
     (λ s. data-append (end_posts setup payload A s e past) (end_posts setup payload B s e past)
-        (data-flat (sent_posts (element_size setup) A (offered B s past) (e ∷ past)) (data-sent (element_size setup) A (offered B s past) (e ∷ past)) (posts_of (terms_of setup) A (items payload (group_on s past) s e past) (part payload (group_on s past) s past)))
-        (data-flat (sent_posts (element_size setup) B (offered A s past) (e ∷ past)) (data-sent (element_size setup) B (offered A s past) (e ∷ past)) (posts_of (terms_of setup) B (items payload (group_on s past) s e past) (part payload (group_on s past) s past))))
+    (data-flat (sent_posts (element_size setup) A (offered B s past) (e ∷ past)) (data-sent (element_size setup) A (offered B s past) (e ∷ past)) (posts_of (terms_of setup) A (items payload (group_on s past) s e past) (part payload (group_on s past) s past)))
+    (data-flat (sent_posts (element_size setup) B (offered A s past) (e ∷ past)) (data-sent (element_size setup) B (offered A s past) (e ∷ past)) (posts_of (terms_of setup) B (items payload (group_on s past) s e past) (part payload (group_on s past) s past))))
     (offered_sockets setup past)
 
 -- what holds of a write and of a CDC message holds of them
@@ -159,6 +159,9 @@ no-keys B table ks = by-data (λ p. keys_by_post B table ks p ≡ ks) (λ from l
 
 no-llc : (p : Post) → is_data p ≡ true → llc_of p ≡ None
 no-llc = by-data (λ p. llc_of p ≡ None) (λ from link key address len. refl) (λ from link m. refl)
+
+pub unseen-lends : (x : Side) (ps more : List Post) → AreData more → filter_map (lends x) (ps ++ more) ≡ filter_map (lends x) ps
+unseen-lends x ps more a = unseen-filter_map (lends x) (no-lending x) ps more a
 
 -- the LLC posts on a wire
 skip-llc : (b : Bool) (c : Placed) (cs : List Placed) → llc_of c.post ≡ None → filter_map llc_in (cond b (c ∷ cs) cs) ≡ filter_map llc_in cs
