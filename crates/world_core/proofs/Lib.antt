@@ -14,6 +14,7 @@ pub mod Feasible
 pub mod Groups
 pub mod Growth
 pub mod Handshaken
+pub mod NeverOver
 pub mod Handshakes
 pub mod Heads
 pub mod Idle
