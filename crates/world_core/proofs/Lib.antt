@@ -15,6 +15,7 @@ pub mod Groups
 pub mod Growth
 pub mod Handshaken
 pub mod NeverOver
+pub mod FewUps
 pub mod Handshakes
 pub mod Heads
 pub mod Idle
