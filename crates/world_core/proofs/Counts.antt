@@ -1,52 +1,38 @@
 -- How many posts are under way on the one link: three for each snapshot that may be in flight, and one LLC message.
-use Rattle.std.proofs.Common.{◌≡◌, ◌∙◌, ◌==◌, ◌⊎◌, inl, inr, ℕ, ◌+◌, ◌-◌, ◌*◌, ◌≤◌, ◌<◌, Bool, true, false, not, if◌then◌else◌, List, [], ◌∷◌, ◌++◌, length, take, drop, map, filter, filter_map, refl, ap, sym, subst, ◌&&◌, true≢false, arith, append_assoc, append-nil, length-append, length-drop, length-take, suc, zero, mul-add, mul-zero, mul-one, eqb-true, eq-eqb}
-use Rattle.std.specs.Prelude.{Option, Some, None, is_some, cond}
+use Rattle.std.proofs.Common.{◌≡◌, ◌∙◌, ◌==◌, inl, inr, ℕ, ◌+◌, ◌≤◌, ◌<◌, Bool, true, false, not, List, [], ◌∷◌, ◌++◌, length, filter, filter_map, refl, ap, sym, subst, ◌&&◌, true≢false, arith, length-append, suc, zero, eqb-true, eq-eqb}
+use Rattle.std.specs.Prelude.{Option, Some, None, cond}
 use Rattle.std.specs.List.{cons_option}
-use Rattle.std.proofs.lemmas.List.{map-append, length-map}
+use Rattle.std.proofs.lemmas.List.{length-map}
 use Rattle.std.proofs.lemmas.List.Elements.{filter-append}
 use Rattle.std.proofs.lemmas.List.Filters.{length-filter_both}
 use Rattle.smc_num.specs.declared.Side.{Side}
 use Rattle.smc_num.specs.declared.Side.TheVariants.{A, B}
 use Rattle.smc_num.specs.declared.LinkId.{LinkId}
-use Rattle.smc_num.specs.Names.{other, same_side, same_link}
+use Rattle.smc_num.specs.Names.{other, same_side}
 use Rattle.cdc_wire.specs.declared.CdcMessage.{CdcMessage}
 use Rattle.pipe_model.specs.declared.setup.Setup.{Setup}
-use Rattle.pipe_model.specs.declared.snapshot.Snapshot.{Snapshot}
 use Rattle.pipe_model.specs.declared.post.Post.{Post}
 use Rattle.pipe_model.specs.declared.post.Post.TheVariants.{Write, Cdc, Llc, Clc}
 use Rattle.pipe_model.specs.declared.post.Placed.{Placed}
 use Rattle.pipe_model.specs.declared.entry.Entry.{Entry}
-use Rattle.pipe_model.specs.declared.sent.Sent.{Sent}
 use Rattle.pipe_model.specs.Words.{element_size}
 use Rattle.pipe_model.specs.History.{Offered, offered}
 use Rattle.pipe_model.specs.Wires.{is_on, completes_later, unlanded, uncompleted}
-use Rattle.pipe_model.specs.Ends.{Half, to_land, to_complete}
-use Rattle.pipe_model.specs.Pipe.{half, pipe}
-use Rattle.pipe_model.specs.Parts.{EachOf, snapshots, IsMarked, IsFlying}
-use Rattle.pipe_model.specs.Connections.{is_up, part}
-use Rattle.pipe_model.specs.Lending.{terms_of, pipe_of}
 use Rattle.pipe_model.specs.Posts.{connection_posts}
 use Rattle.pipe_model.specs.Lawful.{draft}
-use Rattle.pipe_model.proofs.Facts.{is-marked, is-flying}
-use Rattle.world_core.specs.Played.{IsOneLink, IsMade, IsPlayed}
-use Rattle.world_core.specs.OneLink.{the_link, Stage, NoLink, Begun, Made, Asking, LiveAtA, LiveAtBoth, llc_of, llc_in, llc_waiting, waiting_at, IsAtStage}
-use Rattle.world_core.specs.Room.{sum_below, ups_below, HasRoom}
-use Rattle.world_core.specs.Wired.{cdc_under, cdcs, message, returning, IsCarried, IsOpenSent}
+use Rattle.world_core.specs.Played.{IsOneLink, IsPlayed}
+use Rattle.world_core.specs.OneLink.{the_link, Stage, NoLink, Begun, Made, Asking, LiveAtA, LiveAtBoth, llc_of, llc_in, llc_waiting, waiting_at}
+use Rattle.world_core.specs.Room.{sum_below}
+use Rattle.world_core.specs.Wired.{cdc_under, cdcs}
 use Rattle.world_core.specs.WireSteps.{EachPost, EachPlaced}
-use Rattle.world_core.specs.Agreement.{HasOffers, IsElse, Agree, PostsOne, PostsFew}
-use Rattle.world_core.proofs.OpenEnds.{half-open}
-use Rattle.world_core.proofs.Idle.{idle}
-use Rattle.world_core.proofs.Carrying.{cdcs-append}
-use Rattle.world_core.proofs.Places.{placed-append, placed-filter, placed-more}
+use Rattle.world_core.specs.Agreement.{PostsFew}
 use Rattle.world_core.proofs.Ways.{way}
-use Rattle.world_core.proofs.Parts.{part-open, up-is}
 use Rattle.world_core.proofs.AskedPosts.{IsControl, asked-control}
-use Rattle.world_core.proofs.Agreement.{agrees}
-use Rattle.world_core.proofs.Heads.{unlanded-there, uncompleted-there, first-meant, Gave, gave}
+use Rattle.world_core.proofs.Heads.{unlanded-there}
 use Rattle.world_core.proofs.PlayedWorlds.{played}
 use Rattle.world_core.proofs.Shaken.{only-link}
-use Rattle.world_core.proofs.Handshaken.{shaken, has-offers, one-batch}
-use Rattle.world_core.proofs.Batched.{cdc_count, AreBatched, batched-all, ours, batch-ours, Posts, posts-filter, queue, queue-step}
+use Rattle.world_core.proofs.Handshaken.{one-batch}
+use Rattle.world_core.proofs.Batched.{cdc_count, AreBatched, ours, batch-ours, Posts, queue, queue-step}
 
 and-no : (b : Bool) → (b && false) ≡ false
 and-no true = refl

@@ -1,23 +1,21 @@
 -- No more ends of a side are up than it has elements: each has one of its own.
 use Rattle.std.proofs.Common.{◌≡◌, ◌∙◌, ◌==◌, ℕ, ◌+◌, ◌*◌, ◌≤◌, ◌<◌, Bool, true, false, if◌then◌else◌, List, [], ◌∷◌, length, map, refl, ap, sym, subst, ◌&&◌, true≢false, arith, suc, zero, eqb-true, eq-eqb, mul-le-mul_left}
-use Rattle.std.specs.Prelude.{Option, Some, None, is_some, cond, find}
+use Rattle.std.specs.Prelude.{Option, Some, is_some, cond, find}
 use Rattle.std.proofs.lemmas.List.{length-map}
 use Rattle.smc_num.specs.declared.Side.{Side}
-use Rattle.smc_num.specs.declared.LinkId.{LinkId}
-use Rattle.smc_num.specs.Places.{Place, same_place, rmb_at}
+use Rattle.smc_num.specs.Places.{same_place}
 use Rattle.clc_wire.specs.declared.offer.Offer.{Offer}
 use Rattle.pipe_model.specs.declared.setup.Setup.{Setup}
 use Rattle.pipe_model.specs.declared.entry.Entry.{Entry}
 use Rattle.pipe_model.specs.Words.{elements_of}
-use Rattle.pipe_model.specs.History.{Offered, offered}
-use Rattle.pipe_model.specs.Connections.{IsUp, is_up, end_state, early_state}
+use Rattle.pipe_model.specs.Connections.{IsUp, is_up, early_state}
 use Rattle.pipe_model.specs.Lending.{Lending, lends_by, lendings, lent}
 use Rattle.pipe_model.specs.Fallback.{is_fallen_state, is_fallen}
 use Rattle.world_core.specs.Played.{IsOneLink, IsPlayed}
-use Rattle.world_core.specs.OneLink.{the_link, Stage}
-use Rattle.world_core.specs.Sockets.{IsOffer, StandsAt, HasSocket, IsWorld, on_link, is_first, offered_at}
-use Rattle.world_core.specs.Lent.{EachLending, HaveSockets, HavePlaces, IsOfOffer, AreLendings}
-use Rattle.world_core.specs.Room.{sum_below, ups_below, HasRoom, FitsElements}
+use Rattle.world_core.specs.OneLink.{the_link}
+use Rattle.world_core.specs.Sockets.{IsOffer, is_first}
+use Rattle.world_core.specs.Lent.{EachLending, HaveSockets, HavePlaces, IsOfOffer}
+use Rattle.world_core.specs.Room.{sum_below, ups_below, FitsElements}
 use Rattle.world_core.proofs.PlayedWorlds.{played}
 use Rattle.world_core.proofs.LinkFacts.{up-has-offers}
 use Rattle.world_core.proofs.LendingFacts.{each-map, turned, sub-lent, played-lendings, at-most}

@@ -1,5 +1,5 @@
 -- The one link carries at most three posts for each snapshot that may be in flight, and one LLC message.
-use Rattle.std.proofs.Common.{◌≡◌, ◌∙◌, ◌==◌, ◌⊎◌, inl, inr, ℕ, ◌+◌, ◌-◌, ◌*◌, ◌≤◌, ◌<◌, Bool, true, false, not, if◌then◌else◌, List, [], ◌∷◌, ◌++◌, length, take, drop, map, filter, filter_map, refl, ap, sym, subst, ◌&&◌, true≢false, arith, append-nil, length-append, length-drop, length-take, suc, zero, mul-add, mul-zero, eqb-true, eq-eqb}
+use Rattle.std.proofs.Common.{◌≡◌, ◌∙◌, ◌==◌, ◌⊎◌, inl, inr, ℕ, ◌+◌, ◌-◌, ◌*◌, ◌≤◌, ◌<◌, Bool, true, false, if◌then◌else◌, List, [], ◌∷◌, ◌++◌, length, map, filter, refl, ap, sym, subst, ◌&&◌, true≢false, arith, length-append, length-drop, length-take, suc, zero, mul-add, mul-zero, eq-eqb}
 use Rattle.std.specs.Prelude.{Option, Some, None, is_some, cond}
 use Rattle.std.specs.List.{cons_option}
 use Rattle.std.proofs.lemmas.List.{map-append, length-map}
@@ -8,7 +8,6 @@ use Rattle.smc_num.specs.declared.LinkId.{LinkId}
 use Rattle.smc_num.specs.Names.{other, same_side, same_link, head}
 use Rattle.cdc_wire.specs.declared.CdcMessage.{CdcMessage}
 use Rattle.pipe_model.specs.declared.setup.Setup.{Setup}
-use Rattle.pipe_model.specs.declared.snapshot.Snapshot.{Snapshot}
 use Rattle.pipe_model.specs.declared.post.Post.{Post}
 use Rattle.pipe_model.specs.declared.post.Post.TheVariants.{Write, Cdc, Llc, Clc}
 use Rattle.pipe_model.specs.declared.post.Placed.{Placed}
@@ -18,17 +17,17 @@ use Rattle.pipe_model.specs.Words.{element_size}
 use Rattle.pipe_model.specs.History.{Offered, offered}
 use Rattle.pipe_model.specs.Wires.{is_on, completes_later, unlanded, uncompleted}
 use Rattle.pipe_model.specs.Ends.{Half, to_land, to_complete}
-use Rattle.pipe_model.specs.Pipe.{half, pipe}
+use Rattle.pipe_model.specs.Pipe.{half}
 use Rattle.pipe_model.specs.Parts.{EachOf, snapshots, IsMarked, IsFlying}
 use Rattle.pipe_model.specs.Connections.{is_up, part}
 use Rattle.pipe_model.specs.Lending.{terms_of, pipe_of}
 use Rattle.pipe_model.proofs.Facts.{is-marked, is-flying}
 use Rattle.world_core.specs.Played.{IsOneLink, IsPlayed}
-use Rattle.world_core.specs.OneLink.{the_link, llc_waiting, waiting_at, IsAtStage}
-use Rattle.world_core.specs.Room.{sum_below, ups_below, HasRoom}
+use Rattle.world_core.specs.OneLink.{the_link, llc_waiting}
+use Rattle.world_core.specs.Room.{sum_below, HasRoom}
 use Rattle.world_core.specs.Wired.{cdc_under, if_meant, cdcs, message, returning, IsCarried, IsOpenSent, IsOpenEnd}
 use Rattle.world_core.specs.WireSteps.{EachPlaced}
-use Rattle.world_core.specs.Agreement.{HasOffers, IsElse, Agree, CarriesNoStranger}
+use Rattle.world_core.specs.Agreement.{HasOffers, IsElse, Agree}
 use Rattle.world_core.proofs.OpenEnds.{half-open}
 use Rattle.world_core.proofs.Idle.{idle}
 use Rattle.world_core.proofs.Carrying.{cdcs-append}
@@ -141,8 +140,8 @@ module _ (setup : Setup) (one : IsOneLink setup) (payload : List ℕ) (x : Side)
       let k : IsMarked (H s) = is-marked (terms_of setup) x (part payload 1 s past) c.feasible in
       let h : Half = H s in
       let a : length (cdcs x o.offer.token V) ≡ length (map (message (element_size setup) o.offer.token) (returning h)) + length (map (message (element_size setup) o.offer.token) (to_land h)) =
-          ap (λ ms. length ms) (v-cdcs o.offer.token ∙ ap (λ ms. ms ++ cdcs x o.offer.token (unlanded the_link x past)) w.completing ∙ ap (λ ms. map (message (element_size setup) o.offer.token) (returning h) ++ ms) w.landing) ∙
-          length-append (map (message (element_size setup) o.offer.token) (returning h)) (map (message (element_size setup) o.offer.token) (to_land h)) in
+      ap (λ ms. length ms) (v-cdcs o.offer.token ∙ ap (λ ms. ms ++ cdcs x o.offer.token (unlanded the_link x past)) w.completing ∙ ap (λ ms. map (message (element_size setup) o.offer.token) (returning h) ++ ms) w.landing) ∙
+      length-append (map (message (element_size setup) o.offer.token) (returning h)) (map (message (element_size setup) o.offer.token) (to_land h)) in
       let b : length (map (message (element_size setup) o.offer.token) (returning h)) ≡ length (returning h) = length-map (returning h) (message (element_size setup) o.offer.token) in
       let d : length (map (message (element_size setup) o.offer.token) (to_land h)) ≡ length (to_land h) = length-map (to_land h) (message (element_size setup) o.offer.token) in
       let e : length (to_land h) ≡ length h.sent - h.landed = length-drop h.landed h.sent in

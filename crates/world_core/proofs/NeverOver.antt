@@ -1,27 +1,26 @@
 -- No end of a lending is ever over, so that each offered element stays lent; and no CDC message is dropped.
-use Rattle.std.proofs.Common.{◌≡◌, ◌∙◌, ◌==◌, ℕ, Bool, true, false, List, [], ◌∷◌, refl, ap, sym, subst, true≢false, drop, suc, zero}
-use Rattle.std.specs.Prelude.{Option, Some, None, is_some, find}
+use Rattle.std.proofs.Common.{◌≡◌, ◌∙◌, ℕ, Bool, true, false, List, [], ◌∷◌, refl, ap, sym, true≢false, drop, suc, zero}
+use Rattle.std.specs.Prelude.{Option, Some, is_some}
 use Rattle.smc_num.specs.declared.Side.{Side}
 use Rattle.smc_num.specs.declared.Side.TheVariants.{A, B}
 use Rattle.smc_num.specs.declared.LinkId.{LinkId}
 use Rattle.smc_num.specs.Names.{other, head}
-use Rattle.clc_wire.specs.declared.offer.Offer.{Offer}
 use Rattle.cdc_wire.specs.declared.CdcMessage.{CdcMessage}
 use Rattle.pipe_model.specs.declared.setup.Setup.{Setup}
 use Rattle.pipe_model.specs.declared.sent.Sent.{Sent}
 use Rattle.pipe_model.specs.declared.post.Post.TheVariants.{Cdc}
 use Rattle.pipe_model.specs.declared.post.Placed.{Placed}
 use Rattle.pipe_model.specs.declared.entry.Entry.{Entry}
-use Rattle.pipe_model.specs.History.{Offered, offered}
+use Rattle.pipe_model.specs.History.{Offered}
 use Rattle.pipe_model.specs.Wires.{unlanded}
-use Rattle.pipe_model.specs.Ends.{Half, to_land}
-use Rattle.pipe_model.specs.Pipe.{half, pipe}
-use Rattle.pipe_model.specs.Connections.{EndState, is_up, end_state, group_on, part}
-use Rattle.pipe_model.specs.Lending.{Lending, lends_by, lent, terms_of, pipe_of, is_over_on, record_of}
+use Rattle.pipe_model.specs.Ends.{Half}
+use Rattle.pipe_model.specs.Pipe.{half}
+use Rattle.pipe_model.specs.Connections.{is_up, group_on, part}
+use Rattle.pipe_model.specs.Lending.{terms_of, pipe_of, record_of}
 use Rattle.pipe_model.specs.Fallback.{is_fallen_state, is_fallen}
 use Rattle.world_core.specs.Played.{IsOneLink, IsPlayed}
 use Rattle.world_core.specs.OneLink.{the_link}
-use Rattle.world_core.specs.Sockets.{Socket, Unopened, Fallen, Proposed, Refused, FirstAccepted, FirstConfirmed, AwaitsLink, FirstUpAtA, FirstUp, Accepted, AcceptRefused, AcceptFallen, Confirmed, Up, StandsAt, HasSocket, IsWorld, end_at, up_at, on_link}
+use Rattle.world_core.specs.Sockets.{Socket, Unopened, Fallen, Proposed, Refused, FirstAccepted, FirstConfirmed, AwaitsLink, FirstUpAtA, FirstUp, Accepted, AcceptRefused, AcceptFallen, Confirmed, Up, end_at, up_at, on_link}
 use Rattle.world_core.specs.Lent.{WasNeverOver}
 use Rattle.world_core.specs.Agreement.{Spelling, NamesRecord, next_to_land}
 use Rattle.world_core.proofs.OpenEnds.{never-over}
