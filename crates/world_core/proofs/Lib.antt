@@ -16,6 +16,7 @@ pub mod Growth
 pub mod Handshaken
 pub mod NeverOver
 pub mod FewUps
+pub mod Due
 pub mod Handshakes
 pub mod Heads
 pub mod Idle
