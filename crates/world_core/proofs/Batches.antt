@@ -86,7 +86,7 @@ module _ (setup : Setup) (payload : List ℕ) (e : Entry) (past : List Entry) (b
   ups-on x s l f = let u = go.ups x s l f in u.0
 
   -- fates and establishments make no end post
-  below-rests : (x : Side) (s : ℕ) (u : Bool) → is_up x s past ≡ u → (half x (pipe T (below (G s) s e past ++ P s))).sent ≡ (half x (pipe T (P s))).sent
+  pub below-rests : (x : Side) (s : ℕ) (u : Bool) → is_up x s past ≡ u → (half x (pipe T (below (G s) s e past ++ P s))).sent ≡ (half x (pipe T (P s))).sent
   below-rests x s true u =
       let q = all-spared T x (F s) (P s) (f-spares x s u) in
       let o = on x s in

@@ -18,6 +18,7 @@ ghost use Rattle.pipe_model.specs.Lawful.{draft};
 ghost use Rattle.world_core.specs.Played.{IsOneLink, IsPlayed};
 ghost use Rattle.world_core.specs.OneLink.{the_link};
 ghost use Rattle.world_core.specs.Lent.{WasNeverOver};
+ghost use Rattle.world_core.specs.Due.{PostsDue};
 ghost use Rattle.world_core.specs.Room.{HasRoom, FitsElements};
 ghost use Rattle.world_core.specs.WireSteps.{IsPlaced, EachPlaced};
 ghost use Rattle.world_core.specs.Agreement.{HasOffers, Agree, HasPipe, Spelling, PostsFew, GivesItems, IsOwnUnderToken, NamesRecord, next_to_land, next_to_complete};
@@ -109,4 +110,11 @@ pub fn no_message_is_dropped()
     ensures { (setup : Settings) → IsOneLink setup → (payload : List ℕ) (past : List Line) (n : ℕ)
         → IsPlayed setup payload past n → (x : Peer) (c : InPlace) (rest : List InPlace) (from : Peer) (l : Link) (m : Message)
         → unlanded the_link x past ≡ c ∷ rest → c.post ≡ Cdc from l m → NamesRecord setup payload x past m }
+{}
+
+/// The pipes post what is due to the one end that an entry makes call or completes a message of, and
+/// nothing where it does neither.
+pub fn the_pipes_post_what_is_due()
+    ensures { (setup : Settings) → IsOneLink setup → (payload : List ℕ) (e : Line) (past : List Line) (n : ℕ)
+        → (p : IsPlayed setup payload (e ∷ past) n) → PostsDue setup payload (draft setup payload past p.0 e.event) e past }
 {}
