@@ -92,7 +92,7 @@ by-data P w c (Llc from link m) e = cc
 by-data P w c (Clc from s link m) e = cc
 
 -- words on lists that pass over them
-unseen-filter_map : {X : Type 0} (f : Post → Option X) → ((p : Post) → is_data p ≡ true → f p ≡ None) → (ps more : List Post) → AreData more → filter_map f (ps ++ more) ≡ filter_map f ps
+pub unseen-filter_map : {X : Type 0} (f : Post → Option X) → ((p : Post) → is_data p ≡ true → f p ≡ None) → (ps more : List Post) → AreData more → filter_map f (ps ++ more) ≡ filter_map f ps
 unseen-filter_map f skips [] [] a = refl
 unseen-filter_map f skips [] (m ∷ more) a = rw (skips m a.0) (unseen-filter_map f skips [] more a.1)
 unseen-filter_map f skips (p ∷ ps) more a = rw (unseen-filter_map f skips ps more a) refl
@@ -125,7 +125,7 @@ no-add = by-data (λ p. (f : Fabric) → asks_link p f ≡ f) (λ from link key 
 no-delete : (x : Side) (p : Post) → is_data p ≡ true → (f : Fabric) → asks_delete x p f ≡ f
 no-delete x = by-data (λ p. (f : Fabric) → asks_delete x p f ≡ f) (λ from link key address len f. refl) (λ from link m f. refl)
 
-unseen-after : (event : Event) (reply : Reply) (ps more : List Post) (past : List Entry) (f : Fabric) → AreData more → after event reply (ps ++ more) past f ≡ after event reply ps past f
+pub unseen-after : (event : Event) (reply : Reply) (ps more : List Post) (past : List Entry) (f : Fabric) → AreData more → after event reply (ps ++ more) past f ≡ after event reply ps past f
 unseen-after (ClcEvent s dir) (Sent AcceptSent) ps more past f a = unseen-first begins no-begins ps more a f
 unseen-after (ClcEvent s dir) (Sent ConfirmSent) ps more past f a = unseen-first begins no-begins ps more a f
 unseen-after (ClcEvent s A) (Sent KeySent) ps more past f a = unseen-first (asks_key B) (no-key B) ps more a f
@@ -139,11 +139,11 @@ unseen-after (Test x slot) (Sent TestSent) ps more past f a = refl
 unseen-after _ _ ps more past f a = refl
 
 -- the rest
-no-offer : (x : Side) (s : ℕ) (p : Post) → is_data p ≡ true → offer_in x s p ≡ None
+pub no-offer : (x : Side) (s : ℕ) (p : Post) → is_data p ≡ true → offer_in x s p ≡ None
 no-offer A s = by-data (λ p. offer_in A s p ≡ None) (λ from link key address len. refl) (λ from link m. refl)
 no-offer B s = by-data (λ p. offer_in B s p ≡ None) (λ from link key address len. refl) (λ from link m. refl)
 
-no-lending : (x : Side) (p : Post) → is_data p ≡ true → lends x p ≡ None
+pub no-lending : (x : Side) (p : Post) → is_data p ≡ true → lends x p ≡ None
 no-lending A = by-data (λ p. lends A p ≡ None) (λ from link key address len. refl) (λ from link m. refl)
 no-lending B = by-data (λ p. lends B p ≡ None) (λ from link key address len. refl) (λ from link m. refl)
 

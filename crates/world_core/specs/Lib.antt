@@ -1,7 +1,11 @@
+pub mod Agreement
 pub mod Connection
 pub mod Lent
 pub mod OneLink
 pub mod Played
+pub mod Room
 pub mod Sockets
 pub mod Steps
 pub mod Views
+pub mod WireSteps
+pub mod Wired

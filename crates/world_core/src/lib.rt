@@ -11,6 +11,7 @@
 
 mod connection;
 mod laws;
+mod wire_laws;
 mod world;
 
 pub use laws::{
@@ -22,4 +23,10 @@ pub use laws::{
     the_link_and_the_sockets_are_somewhere, the_link_is_not_dead, tokens_tell_sockets_apart,
 };
 pub use pipe_model::StepFault;
+pub use wire_laws::{
+    an_entry_gives_deeds_and_fates, no_end_closes, offers_differ_in_their_tokens,
+    own_messages_are_those_under_the_token, posts_on_a_wire_stand_in_the_history,
+    the_link_has_room, the_pipes_post_one_batch_at_most, what_completes_is_next_to_complete,
+    what_lands_is_next_to_land, wires_and_pipes_agree,
+};
 pub use world::{NewFault, World};
