@@ -43,6 +43,7 @@ pub mod Rising
 pub mod Senders
 pub mod Shaken
 pub mod Sound
+pub mod StandingLendings
 pub mod StillLent
 pub mod TakenAnswers
 pub mod TakenMessages

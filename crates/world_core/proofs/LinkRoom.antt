@@ -140,8 +140,8 @@ module _ (setup : Setup) (one : IsOneLink setup) (payload : List ℕ) (x : Side)
       let k : IsMarked (H s) = is-marked (terms_of setup) x (part payload 1 s past) c.feasible in
       let h : Half = H s in
       let a : length (cdcs x o.offer.token V) ≡ length (map (message (element_size setup) o.offer.token) (returning h)) + length (map (message (element_size setup) o.offer.token) (to_land h)) =
-          ap (λ ms. length ms) (v-cdcs o.offer.token ∙ ap (λ ms. ms ++ cdcs x o.offer.token (unlanded the_link x past)) w.completing ∙ ap (λ ms. map (message (element_size setup) o.offer.token) (returning h) ++ ms) w.landing) ∙
-          length-append (map (message (element_size setup) o.offer.token) (returning h)) (map (message (element_size setup) o.offer.token) (to_land h)) in
+      ap (λ ms. length ms) (v-cdcs o.offer.token ∙ ap (λ ms. ms ++ cdcs x o.offer.token (unlanded the_link x past)) w.completing ∙ ap (λ ms. map (message (element_size setup) o.offer.token) (returning h) ++ ms) w.landing) ∙
+      length-append (map (message (element_size setup) o.offer.token) (returning h)) (map (message (element_size setup) o.offer.token) (to_land h)) in
       let b : length (map (message (element_size setup) o.offer.token) (returning h)) ≡ length (returning h) = length-map (returning h) (message (element_size setup) o.offer.token) in
       let d : length (map (message (element_size setup) o.offer.token) (to_land h)) ≡ length (to_land h) = length-map (to_land h) (message (element_size setup) o.offer.token) in
       let e : length (to_land h) ≡ length h.sent - h.landed = length-drop h.landed h.sent in
