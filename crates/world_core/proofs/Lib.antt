@@ -9,14 +9,13 @@ pub mod ClcMoves
 pub mod Confirmations
 pub mod Counts
 pub mod DataPosts
+pub mod Due
 pub mod EntryItems
 pub mod Feasible
+pub mod FewUps
 pub mod Groups
 pub mod Growth
 pub mod Handshaken
-pub mod NeverOver
-pub mod FewUps
-pub mod Due
 pub mod Handshakes
 pub mod Heads
 pub mod Idle
@@ -28,6 +27,7 @@ pub mod LinkMoves
 pub mod LinkRoom
 pub mod Lists
 pub mod Moves
+pub mod NeverOver
 pub mod NewOffers
 pub mod Offers
 pub mod OneSender
@@ -46,6 +46,7 @@ pub mod Rising
 pub mod Senders
 pub mod Shaken
 pub mod Sound
+pub mod StandingLendings
 pub mod StillLent
 pub mod TakenAnswers
 pub mod TakenMessages

@@ -21,7 +21,7 @@ ghost use Rattle.pipe_model.specs.Posts.{end_posts, groups_begun};
 ghost use Rattle.world_core.specs.Played.{IsOneLink, IsPlayed};
 ghost use Rattle.world_core.specs.OneLink.{the_link, the_key, Stage, IsAtStage, is_made, is_of_first};
 ghost use Rattle.world_core.specs.Sockets.{HasWorld, IsOffer, IsWorld, on_link, Socket, StandsAt, end_at};
-ghost use Rattle.world_core.specs.Lent.{AreLendings, WasNeverOver};
+ghost use Rattle.world_core.specs.Lent.{AreLendings};
 
 /// The one link is at one step of its making, nothing is cut, and each socket is at one step of its
 /// handshake, in step with the link.
@@ -125,12 +125,10 @@ pub fn a_token_names_an_offer()
         → (o : Offer) × ((offered x l.s past ≡ on_link o) × ((l ≡ lends_by l.s the_link o) × (o.token ≡ token))) }
 {}
 
-/// An element that was offered stays lent, and its token names it, until its end falls back, where no
-/// end was ever over.
+/// An element that was offered stays lent, and its token names it, until its end falls back.
 pub fn an_offered_element_stays_lent()
     ensures { (setup : Setup) (payload : List ℕ) (past : List Entry) (n : ℕ) (x : Peer) (s : ℕ) (o : Offer)
-        → IsOneLink setup → IsPlayed setup payload past n → WasNeverOver setup payload x past
-        → offered x s past ≡ on_link o → is_fallen x s past ≡ false
+        → IsOneLink setup → IsPlayed setup payload past n → offered x s past ≡ on_link o → is_fallen x s past ≡ false
         → (find (λ l. l.s == s) (lent setup payload x past) ≡ Some (lends_by s the_link o))
         × (record_of setup payload x o.token past ≡ Some (lends_by s the_link o)) }
 {}
