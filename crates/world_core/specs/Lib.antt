@@ -1,3 +1,12 @@
+pub mod Agreement
 pub mod Connection
+pub mod Due
+pub mod Lent
+pub mod OneLink
 pub mod Played
+pub mod Room
+pub mod Sockets
 pub mod Steps
+pub mod Views
+pub mod WireSteps
+pub mod Wired
