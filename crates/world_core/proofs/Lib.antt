@@ -3,6 +3,7 @@ pub mod Agreement
 pub mod AskedPosts
 pub mod Batched
 pub mod Batches
+pub mod BoundKeys
 pub mod Carried
 pub mod Carrying
 pub mod ClcMoves
@@ -26,6 +27,7 @@ pub mod LinkRoom
 pub mod Lists
 pub mod Moves
 pub mod NewOffers
+pub mod NoResets
 pub mod Offers
 pub mod OneSender
 pub mod OpenEnds
@@ -39,6 +41,7 @@ pub mod PlayedWorlds
 pub mod Quiet
 pub mod QuietEvents
 pub mod Records
+pub mod Relending
 pub mod Rising
 pub mod Senders
 pub mod Shaken

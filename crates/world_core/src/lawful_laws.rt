@@ -1,0 +1,31 @@
+//! The histories that a world of one link makes are lawful. Each law is a function with nothing to do,
+//! whose contract is the law.
+
+ghost use Rattle.std.specs.Prelude.{◌≡◌, ℕ, List, ◌∷◌, None};
+ghost use Rattle.smc_num.specs.declared.Side.{Side as Peer};
+ghost use Rattle.pipe_model.specs.declared.setup.Setup.{Setup as Conditions};
+ghost use Rattle.pipe_model.specs.declared.entry.Entry.{Entry as Record};
+ghost use Rattle.pipe_model.specs.Keys.{AreBound};
+ghost use Rattle.pipe_model.specs.Lending.{IsLent};
+ghost use Rattle.pipe_model.specs.Causes.{kept_cause, CausesAreShown};
+ghost use Rattle.world_core.specs.Played.{IsOneLink, IsPlayed};
+
+/// Each key after an entry may be bound so: the one key of a side is always bound to its one RMB.
+pub fn keys_are_bound_lawfully()
+    ensures { (setup : Conditions) → IsOneLink setup → (payload : List ℕ) (e : Record) (past : List Record) (n : ℕ)
+        → IsPlayed setup payload (e ∷ past) n → (x : Peer) → AreBound x e past }
+{}
+
+/// No end is ever reset, so there is no cause to show.
+pub fn no_end_is_reset()
+    ensures none { (setup : Conditions) → IsOneLink setup → (payload : List ℕ) (past : List Record) (n : ℕ)
+        → IsPlayed setup payload past n → (x : Peer) (s : ℕ) → kept_cause setup payload x s past ≡ None }
+    ensures shown { (setup : Conditions) → IsOneLink setup → (payload : List ℕ) (past : List Record) (n : ℕ)
+        → IsPlayed setup payload past n → CausesAreShown setup payload past }
+{}
+
+/// No element is lent again before each earlier connection that it was lent to is done with.
+pub fn elements_are_lent_lawfully()
+    ensures { (setup : Conditions) → IsOneLink setup → (payload : List ℕ) (e : Record) (past : List Record) (n : ℕ)
+        → IsPlayed setup payload (e ∷ past) n → (x : Peer) → IsLent x e past }
+{}
