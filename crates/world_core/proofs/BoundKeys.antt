@@ -56,7 +56,7 @@ module _ (setup : Setup) (one : IsOneLink setup) (payload : List ℕ) where
   now-at past x stage e (inl f) = inl (e ∙ f)
   now-at past x stage e (inr f) = inr (e ∙ f)
 
-  now-bound : (past : List Entry) (n : ℕ) → IsPlayed setup payload past n → (x : Side) → (keys_of x past ≡ no_keys) ⊎ (keys_of x past ≡ the_keys x)
+  pub now-bound : (past : List Entry) (n : ℕ) → IsPlayed setup payload past n → (x : Side) → (keys_of x past ≡ no_keys) ⊎ (keys_of x past ≡ the_keys x)
   now-bound past n p x =
       let w = played setup one payload past n p in
       let at = w.world in

@@ -10,6 +10,7 @@ pub mod ClcMoves
 pub mod Confirmations
 pub mod Counts
 pub mod DataPosts
+pub mod DirectedWrites
 pub mod EntryItems
 pub mod Feasible
 pub mod Groups
@@ -17,6 +18,7 @@ pub mod Growth
 pub mod Handshaken
 pub mod Handshakes
 pub mod Heads
+pub mod HomeLandings
 pub mod Idle
 pub mod InHistory
 pub mod Landings
@@ -44,6 +46,7 @@ pub mod Records
 pub mod Relending
 pub mod Rising
 pub mod Senders
+pub mod SentBatches
 pub mod Shaken
 pub mod Sound
 pub mod StandingLendings

@@ -1,5 +1,6 @@
 pub mod Agreement
 pub mod Connection
+pub mod Directed
 pub mod Lent
 pub mod OneLink
 pub mod Played

@@ -7,7 +7,12 @@ ghost use Rattle.pipe_model.specs.declared.setup.Setup.{Setup as Conditions};
 ghost use Rattle.pipe_model.specs.declared.entry.Entry.{Entry as Record};
 ghost use Rattle.pipe_model.specs.Keys.{AreBound};
 ghost use Rattle.pipe_model.specs.Lending.{IsLent};
+ghost use Rattle.pipe_model.specs.Home.{LandsHome};
 ghost use Rattle.pipe_model.specs.Causes.{kept_cause, CausesAreShown};
+ghost use Rattle.pipe_model.specs.Wires.{unlanded};
+ghost use Rattle.world_core.specs.OneLink.{the_link};
+ghost use Rattle.world_core.specs.WireSteps.{EachPlaced};
+ghost use Rattle.world_core.specs.Directed.{IsUnderWay};
 ghost use Rattle.world_core.specs.Played.{IsOneLink, IsPlayed};
 
 /// Each key after an entry may be bound so: the one key of a side is always bound to its one RMB.
@@ -28,4 +33,18 @@ pub fn no_end_is_reset()
 pub fn elements_are_lent_lawfully()
     ensures { (setup : Conditions) → IsOneLink setup → (payload : List ℕ) (e : Record) (past : List Record) (n : ℕ)
         → IsPlayed setup payload (e ∷ past) n → (x : Peer) → IsLent x e past }
+{}
+
+/// Each write that waits to land goes into the element that the peer offered to its connection, under
+/// the peer's one key, and the CDC message behind it names that offer.
+pub fn each_write_under_way_is_directed()
+    ensures { (setup : Conditions) → IsOneLink setup → (payload : List ℕ) (x : Peer) (past : List Record) (n : ℕ)
+        → IsPlayed setup payload past n → EachPlaced (IsUnderWay setup past) (unlanded the_link x past) }
+{}
+
+/// Each write that lands is home: its key is bound to the one RMB of the receiver, and its range lies in
+/// the element that is lent to its connection.
+pub fn each_write_lands_home()
+    ensures { (setup : Conditions) → IsOneLink setup → (payload : List ℕ) (e : Record) (past : List Record) (n : ℕ)
+        → IsPlayed setup payload (e ∷ past) n → LandsHome setup payload e.event e.reply past }
 {}

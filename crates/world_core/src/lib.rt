@@ -15,7 +15,10 @@ mod laws;
 mod wire_laws;
 mod world;
 
-pub use lawful_laws::{elements_are_lent_lawfully, keys_are_bound_lawfully, no_end_is_reset};
+pub use lawful_laws::{
+    each_write_lands_home, each_write_under_way_is_directed, elements_are_lent_lawfully,
+    keys_are_bound_lawfully, no_end_is_reset,
+};
 pub use laws::{
     a_lending_is_where_an_offer_is, a_token_names_an_offer,
     an_end_of_a_pipe_is_up_where_the_end_is, an_end_that_is_not_up_posts_nothing,

@@ -1,0 +1,5 @@
+use Rattle.world_core.proofs.HomeLandings.{lands-home}
+use Rattle.world_core.proofs.lawful_laws.each_write_lands_home.Goals as goal
+
+pub returns : goal.returns
+returns c = λ setup one payload e past n p. lands-home setup one payload e past n p
