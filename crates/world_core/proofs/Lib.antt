@@ -22,6 +22,7 @@ pub mod HomeLandings
 pub mod Idle
 pub mod InHistory
 pub mod Landings
+pub mod LawfulPasts
 pub mod LendingFacts
 pub mod LinkFacts
 pub mod LinkMoves

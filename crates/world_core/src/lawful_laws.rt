@@ -1,13 +1,15 @@
 //! The histories that a world of one link makes are lawful. Each law is a function with nothing to do,
 //! whose contract is the law.
 
-ghost use Rattle.std.specs.Prelude.{◌≡◌, ℕ, List, ◌∷◌, None};
+ghost use Rattle.std.specs.Prelude.{◌≡◌, ℕ, List, ◌∷◌, length, None};
 ghost use Rattle.smc_num.specs.declared.Side.{Side as Peer};
 ghost use Rattle.pipe_model.specs.declared.setup.Setup.{Setup as Conditions};
 ghost use Rattle.pipe_model.specs.declared.entry.Entry.{Entry as Record};
 ghost use Rattle.pipe_model.specs.Keys.{AreBound};
 ghost use Rattle.pipe_model.specs.Lending.{IsLent};
 ghost use Rattle.pipe_model.specs.Home.{LandsHome};
+ghost use Rattle.pipe_model.specs.Lawful.{IsLawfulPast};
+ghost use Rattle.world_core.specs.Heard.{IsHeard};
 ghost use Rattle.pipe_model.specs.Causes.{kept_cause, CausesAreShown};
 ghost use Rattle.pipe_model.specs.Wires.{unlanded};
 ghost use Rattle.world_core.specs.OneLink.{the_link};
@@ -47,4 +49,16 @@ pub fn each_write_under_way_is_directed()
 pub fn each_write_lands_home()
     ensures { (setup : Conditions) → IsOneLink setup → (payload : List ℕ) (e : Record) (past : List Record) (n : ℕ)
         → IsPlayed setup payload (e ∷ past) n → LandsHome setup payload e.event e.reply past }
+{}
+
+/// Every history that is played is lawful, with any bytes that its answers may have handed out; those are
+/// as many as it counts, and such bytes there are.
+pub fn a_played_history_is_lawful()
+    ensures lawful { (setup : Conditions) → IsOneLink setup → (payload : List ℕ) (past : List Record) (n : ℕ)
+        → IsPlayed setup payload past n → (heard : List ℕ) → IsHeard setup payload past heard
+        → IsLawfulPast setup payload past heard }
+    ensures count { (setup : Conditions) (payload : List ℕ) (past : List Record) (n : ℕ)
+        → IsPlayed setup payload past n → (heard : List ℕ) → IsHeard setup payload past heard → length heard ≡ n }
+    ensures bytes { (setup : Conditions) (payload : List ℕ) (past : List Record)
+        → (heard : List ℕ) × IsHeard setup payload past heard }
 {}

@@ -1,0 +1,19 @@
+-- The bytes that a history hands out.
+-- A reader learns here what is asked of them beside the entries: each entry adds what its answer gives.
+use Rattle.std.specs.Prelude.{◌≡◌, ℕ, List, [], ◌∷◌, ◌++◌}
+use Rattle.pipe_model.specs.declared.event.Event.{Event}
+use Rattle.pipe_model.specs.declared.setup.Setup.{Setup}
+use Rattle.pipe_model.specs.declared.entry.Entry.{Entry}
+use Rattle.pipe_model.specs.Replies.{told}
+use Rattle.pipe_model.specs.Lawful.{claims_bytes, Given}
+
+-- an event after a history adds to the bytes handed out before it those that its answer gives
+pub record AddsBytes (setup : Setup) (payload : List ℕ) (past : List Entry) (event : Event) (before heard : List ℕ) : Type 0 where
+  pub given : List ℕ
+  pub heard_is : heard ≡ before ++ given
+  pub given_is : Given (claims_bytes setup payload past event) (told setup payload past event) given
+
+-- these are the bytes that a history hands out
+abbrev pub IsHeard : Setup → List ℕ → List Entry → List ℕ → Type 0
+IsHeard setup payload [] heard = heard ≡ []
+IsHeard setup payload (e ∷ older) heard = (before : List ℕ) × AddsBytes setup payload older e.event before heard × IsHeard setup payload older before
