@@ -1,6 +1,6 @@
 -- The one key of a side is always bound to its one RMB, so no lending is owed where it is bound.
-use Rattle.std.proofs.Common.{◌≡◌, ap, arith, inl, inr, refl, subst, sym, ◌∙◌}
-use Rattle.std.specs.Prelude.{◌⊎◌, ◌==◌, ◌&&◌, not, ℕ, Bool, true, false, All, List, [], ◌∷◌, filter, find, Option, Some, None, IsTrue, cond, option_map}
+use Rattle.std.proofs.Common.{◌≡◌, ap, inl, inr, refl, subst, sym, ◌∙◌}
+use Rattle.std.specs.Prelude.{◌⊎◌, ◌==◌, ◌&&◌, not, ℕ, Bool, true, false, All, List, [], ◌∷◌, filter, Option, Some, None, IsTrue, cond, option_map}
 use Rattle.std.specs.Option.{option_or}
 use Rattle.std.proofs.lemmas.Bool.{eq-eqb}
 use Rattle.std.proofs.lemmas.List.Elements.{All-nil, All-cons}

@@ -1,12 +1,11 @@
 -- The writes of a batch go into the element that the peer offered, and stay so directed as the history grows.
-use Rattle.std.proofs.Common.{◌≡◌, ◌∙◌, ℕ, ◌+◌, ◌-◌, ◌%◌, ◌≤◌, ◌<◌, ◌==◌, Bool, true, false, if◌then◌else◌, List, [], ◌∷◌, ◌++◌, length, drop, filter_map, refl, ap, sym, subst, arith, suc, zero, append_assoc, slice_get, length-append, nat_le, ◌||◌}
+use Rattle.std.proofs.Common.{◌≡◌, ◌∙◌, ℕ, ◌+◌, ◌-◌, ◌%◌, ◌≤◌, ◌<◌, ◌==◌, Bool, true, false, if◌then◌else◌, List, [], ◌∷◌, ◌++◌, length, drop, filter_map, refl, ap, sym, subst, arith, suc, append_assoc, slice_get, length-append, nat_le, ◌||◌}
 use Rattle.std.specs.Prelude.{Option, Some, option_and_then, is_some}
-use Rattle.std.proofs.lemmas.Bool.{leb-true, eqb-true}
+use Rattle.std.proofs.lemmas.Bool.{leb-true}
 use Rattle.std.proofs.lemmas.Nat.{pow_pos}
 use Rattle.std.proofs.Math.Nat.{zero-mod}
 use Rattle.std.proofs.Math.Seq.{drop-append-add}
 use Rattle.smc_num.specs.declared.Side.{Side}
-use Rattle.smc_num.specs.declared.LinkId.{LinkId}
 use Rattle.smc_num.specs.Names.{other, head}
 use Rattle.smc_num.specs.Places.{Place, element_start, address_of}
 use Rattle.cdc_wire.specs.declared.CdcMessage.{CdcMessage}
@@ -25,7 +24,7 @@ use Rattle.pipe_model.specs.Posts.{writes, offered_place, cdc_posts}
 use Rattle.pipe_model.specs.Home.{cdc_in, following_cdc}
 use Rattle.world_core.specs.OneLink.{the_link, the_key}
 use Rattle.world_core.specs.WireSteps.{EachPlaced, EachPost}
-use Rattle.world_core.specs.Directed.{IsDirected, GoesHome, IsUnderWay, EachThen}
+use Rattle.world_core.specs.Directed.{GoesHome, IsUnderWay, EachThen}
 use Rattle.world_core.proofs.AskedPosts.{IsControl}
 use Rattle.world_core.proofs.Carrying.{drop-none}
 

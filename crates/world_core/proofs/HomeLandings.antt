@@ -1,17 +1,16 @@
 -- Each write that lands is home: its key is bound to the one RMB, and its range lies in an element that is lent to its connection.
-use Rattle.std.proofs.Common.{◌≡◌, ◌∙◌, ◌==◌, ◌⊎◌, inl, inr, ℕ, ◌+◌, ◌<◌, Bool, true, false, if◌then◌else◌, List, [], ◌∷◌, length, refl, ap, sym, subst, arith, suc}
-use Rattle.std.specs.Prelude.{find, Option, Some, None, is_some, cond, Contains, IfSome, slice_index_or, option_map}
+use Rattle.std.proofs.Common.{◌≡◌, ◌∙◌, ◌==◌, ◌⊎◌, inl, inr, ℕ, Bool, true, false, if◌then◌else◌, List, [], ◌∷◌, length, refl, ap, sym, subst, arith, suc}
+use Rattle.std.specs.Prelude.{find, Option, Some, None, is_some, cond, Contains, IfSome}
 use Rattle.smc_num.specs.declared.Side.{Side}
 use Rattle.smc_num.specs.declared.Side.TheVariants.{A, B}
 use Rattle.smc_num.specs.declared.LinkId.{LinkId}
 use Rattle.smc_num.specs.Names.{other, head}
 use Rattle.smc_num.specs.Keys.{rmbs_bound}
-use Rattle.clc_wire.specs.declared.offer.Offer.{Offer}
 use Rattle.cdc_wire.specs.declared.CdcMessage.{CdcMessage}
 use Rattle.pipe_model.specs.declared.event.Event.{Event}
 use Rattle.pipe_model.specs.declared.event.Event.TheVariants.{Open, Write as WriteEvent, Read, Clc as ClcEvent, Deliver, Complete}
 use Rattle.pipe_model.specs.declared.reply.Reply.{Reply}
-use Rattle.pipe_model.specs.declared.reply.Reply.TheVariants.{Idle, Landed, Dropped}
+use Rattle.pipe_model.specs.declared.reply.Reply.TheVariants.{Landed, Dropped}
 use Rattle.pipe_model.specs.declared.post.Post.{Post}
 use Rattle.pipe_model.specs.declared.post.Post.TheVariants.{Write, Cdc, Llc, Clc}
 use Rattle.pipe_model.specs.declared.post.PostRef.{PostRef}
@@ -20,7 +19,7 @@ use Rattle.pipe_model.specs.declared.setup.Setup.{Setup}
 use Rattle.pipe_model.specs.declared.entry.Entry.{Entry}
 use Rattle.pipe_model.specs.History.{Offered, offered, post_at}
 use Rattle.pipe_model.specs.Wires.{landing, unlanded}
-use Rattle.pipe_model.specs.Connections.{EndState, end_state, is_up}
+use Rattle.pipe_model.specs.Connections.{EndState, is_up}
 use Rattle.pipe_model.specs.Lending.{Lending, lends_by, lent, record_of}
 use Rattle.pipe_model.specs.Keys.{Keys, keys_of}
 use Rattle.pipe_model.specs.Fallback.{is_fallen, is_fallen_state}
@@ -29,7 +28,7 @@ use Rattle.pipe_model.specs.Home.{following_cdc, IsHome, PostIsHome, LandsHome}
 use Rattle.pipe_model.specs.Lawful.{reply_of}
 use Rattle.world_core.specs.Played.{IsBuilt, IsOneLink, IsPlayed}
 use Rattle.world_core.specs.OneLink.{Stage, IsAtStage, the_link, the_key, the_keys, is_made}
-use Rattle.world_core.specs.Sockets.{Socket, FirstUpAtA, FirstUp, Confirmed, Up, up_at, end_at, on_link}
+use Rattle.world_core.specs.Sockets.{Socket, FirstUpAtA, Confirmed, end_at, on_link}
 use Rattle.world_core.specs.WireSteps.{EachPlaced}
 use Rattle.world_core.specs.Directed.{IsDirected, GoesHome, IsUnderWay}
 use Rattle.world_core.proofs.QuietEvents.{by-side}

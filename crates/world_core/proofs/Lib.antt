@@ -10,6 +10,7 @@ pub mod ClcMoves
 pub mod Confirmations
 pub mod Counts
 pub mod DataPosts
+pub mod Declines
 pub mod DirectedWrites
 pub mod EntryItems
 pub mod Feasible

@@ -1,13 +1,12 @@
 -- No end is ever reset: none closes, none aborts, and no group ends; so there is no cause to show.
-use Rattle.std.proofs.Common.{◌≡◌, ap, refl, subst, sym, ◌∙◌}
-use Rattle.std.specs.Prelude.{◌&&◌, ℕ, Bool, true, false, if◌then◌else◌, List, [], ◌∷◌, Option, Some, None, is_some}
+use Rattle.std.proofs.Common.{◌≡◌, ap, refl, sym, ◌∙◌}
+use Rattle.std.specs.Prelude.{◌&&◌, ℕ, Bool, true, false, if◌then◌else◌, List, [], ◌∷◌, Some, None, is_some}
 use Rattle.smc_num.specs.declared.Side.{Side}
 use Rattle.smc_num.specs.declared.Side.TheVariants.{A, B}
 use Rattle.smc_num.specs.Names.{other}
 use Rattle.pipe_model.specs.declared.event.Event.{Event}
 use Rattle.pipe_model.specs.declared.event.Event.TheVariants.{Open as OpenEvent, Write, Read, Clc, Deliver, Complete}
 use Rattle.pipe_model.specs.declared.reply.Reply.{Reply}
-use Rattle.pipe_model.specs.declared.reply.ResetCause.{ResetCause}
 use Rattle.pipe_model.specs.declared.setup.Setup.{Setup}
 use Rattle.pipe_model.specs.declared.entry.Entry.{Entry}
 use Rattle.pipe_model.specs.Closing.{cause_of, struck}
@@ -15,10 +14,10 @@ use Rattle.pipe_model.specs.declared.closing.Phase.{Phase}
 use Rattle.pipe_model.specs.declared.closing.Phase.TheVariants.{Open}
 use Rattle.pipe_model.specs.declared.reply.ResetCause.TheVariants.{PeerAbort}
 use Rattle.pipe_model.specs.Pipe.{half}
-use Rattle.pipe_model.specs.Connections.{EndState, NoEnd, WaitsProposal, WaitsAnswer, WaitsConfirm, WaitsLink, IsUp, HasFallen, WasReset, end_state, group_on}
+use Rattle.pipe_model.specs.Connections.{EndState, IsUp, group_on}
 use Rattle.pipe_model.specs.Lending.{pipe_of}
 use Rattle.pipe_model.specs.Fallback.{fallen_call, own_phase, fallen_phase, peer_did, is_fallen}
-use Rattle.pipe_model.specs.Causes.{kept_in, kept_cause, IsShown, CausesAreShown}
+use Rattle.pipe_model.specs.Causes.{kept_in, kept_cause, CausesAreShown}
 use Rattle.world_core.specs.Played.{IsBuilt, IsOneLink, IsPlayed}
 use Rattle.world_core.specs.Sockets.{Socket, Unopened, Fallen, Proposed, Refused, FirstAccepted, FirstConfirmed, AwaitsLink, FirstUpAtA, FirstUp, Accepted, AcceptRefused, AcceptFallen, Confirmed, Up, up_at, early_at, end_at}
 use Rattle.world_core.proofs.TakenMessages.{end-is}

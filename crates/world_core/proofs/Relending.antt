@@ -1,6 +1,6 @@
 -- An element is lent again only where its earlier connections are done with: it comes back by fallback alone, of both ends.
 use Rattle.std.proofs.Common.{◌≡◌, ap, refl, subst, sym, ◌∙◌, true≢false}
-use Rattle.std.specs.Prelude.{find, ◌&&◌, ◌||◌, ◌==◌, ℕ, Bool, true, false, All, List, [], ◌∷◌, filter, filter_map, Option, Some, None, is_some, cond, IsTrue}
+use Rattle.std.specs.Prelude.{find, ◌&&◌, ◌||◌, ◌==◌, ℕ, Bool, true, false, All, List, [], ◌∷◌, filter, Option, Some, None, is_some, cond, IsTrue}
 use Rattle.std.proofs.lemmas.List.Elements.{All-nil, All-cons}
 use Rattle.smc_num.specs.declared.Side.{Side}
 use Rattle.smc_num.specs.declared.Side.TheVariants.{A, B}
@@ -13,7 +13,7 @@ use Rattle.pipe_model.specs.Words.{rmbs_of}
 use Rattle.pipe_model.specs.History.{offered, Offered}
 use Rattle.pipe_model.specs.Fabric.{has_ended}
 use Rattle.pipe_model.specs.Connections.{EndState, HasFallen, end_state, group_on, token_of}
-use Rattle.pipe_model.specs.Lending.{Lending, lends_by, lends, lendings, lent, is_out, told_last, is_gone, is_done_with, IsRelent, IsLent, free_places}
+use Rattle.pipe_model.specs.Lending.{Lending, lends_by, lendings, lent, is_out, told_last, is_gone, is_done_with, IsRelent, IsLent, free_places}
 use Rattle.pipe_model.specs.Fallback.{is_fallen, is_fallen_state}
 use Rattle.pipe_model.specs.Posts.{offered_place}
 use Rattle.world_core.specs.Played.{IsOneLink, IsPlayed}

@@ -1,10 +1,9 @@
 -- Each write that waits to land on the one link is directed: every batch that is posted goes into the element of an offer.
-use Rattle.std.proofs.Common.{◌≡◌, ◌∙◌, ◌⊎◌, inl, inr, ℕ, ◌+◌, Bool, true, false, List, [], ◌∷◌, ◌++◌, length, drop, filter, filter_map, refl, ap, sym, subst, arith}
-use Rattle.std.specs.Prelude.{Option, Some, None, is_some, unwrap_or}
+use Rattle.std.proofs.Common.{◌≡◌, ◌∙◌, ◌⊎◌, inl, inr, ℕ, ◌+◌, Bool, true, false, List, [], ◌∷◌, length, drop, filter_map, refl, ap, sym, subst, arith}
+use Rattle.std.specs.Prelude.{Option, Some, None, unwrap_or}
 use Rattle.std.specs.Option.{option_or}
 use Rattle.smc_num.specs.declared.Side.{Side}
 use Rattle.smc_num.specs.declared.Side.TheVariants.{A, B}
-use Rattle.smc_num.specs.declared.LinkId.{LinkId}
 use Rattle.smc_num.specs.Names.{other, head}
 use Rattle.smc_num.specs.Places.{rmb_at}
 use Rattle.smc_num.specs.Keys.{bound}
@@ -22,17 +21,17 @@ use Rattle.pipe_model.specs.Parts.{EachOf, CarriesFew, IsFeasible}
 use Rattle.pipe_model.specs.Connections.{is_up, part, group_on}
 use Rattle.pipe_model.specs.Lending.{terms_of, pipe_of}
 use Rattle.pipe_model.specs.Keys.{Keys, no_keys, keys_of, last_bound}
-use Rattle.pipe_model.specs.Posts.{connection_posts, sent_posts}
+use Rattle.pipe_model.specs.Posts.{connection_posts}
 use Rattle.pipe_model.specs.Replies.{told}
 use Rattle.pipe_model.specs.Home.{cdc_in}
 use Rattle.pipe_model.specs.Lawful.{draft}
 use Rattle.pipe_model.proofs.Carried.{carries-few}
 use Rattle.world_core.specs.Played.{IsOneLink, IsPlayed, handed}
 use Rattle.world_core.specs.OneLink.{Stage, NoLink, Begun, Made, Asking, LiveAtA, LiveAtBoth, the_link, the_key, the_keys, keys_at, fabric_at}
-use Rattle.world_core.specs.Sockets.{IsWorld, IsOffer}
+use Rattle.world_core.specs.Sockets.{IsWorld}
 use Rattle.world_core.specs.Views.{plus}
 use Rattle.world_core.specs.WireSteps.{EachPlaced, leaving}
-use Rattle.world_core.specs.Agreement.{GivesItems, HasPipe, PostsOne, PostsFew}
+use Rattle.world_core.specs.Agreement.{HasPipe, PostsOne, PostsFew}
 use Rattle.world_core.specs.Directed.{GoesHome, IsUnderWay, EachThen}
 use Rattle.world_core.proofs.PlayedWorlds.{played}
 use Rattle.world_core.proofs.Handshaken.{shaken, has-offers, one-batch, gives-items}

@@ -2,6 +2,7 @@ pub mod Agreement
 pub mod Connection
 pub mod Directed
 pub mod Heard
+pub mod Lacking
 pub mod Lent
 pub mod OneLink
 pub mod Played

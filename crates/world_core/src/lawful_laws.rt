@@ -1,26 +1,32 @@
 //! The histories that a world of one link makes are lawful. Each law is a function with nothing to do,
 //! whose contract is the law.
 
-ghost use Rattle.std.specs.Prelude.{◌≡◌, ℕ, List, ◌∷◌, length, None};
+ghost use Rattle.std.specs.Prelude.{◌≡◌, ◌⊎◌, ℕ, List, ◌∷◌, length, None};
 ghost use Rattle.smc_num.specs.declared.Side.{Side as Peer};
 ghost use Rattle.pipe_model.specs.declared.setup.Setup.{Setup as Conditions};
 ghost use Rattle.pipe_model.specs.declared.entry.Entry.{Entry as Record};
-ghost use Rattle.pipe_model.specs.Keys.{AreBound};
+ghost use Rattle.pipe_model.specs.Keys.{AreBound, keys_of, no_keys};
 ghost use Rattle.pipe_model.specs.Lending.{IsLent};
 ghost use Rattle.pipe_model.specs.Home.{LandsHome};
 ghost use Rattle.pipe_model.specs.Lawful.{IsLawfulPast};
+ghost use Rattle.pipe_model.specs.declared.reply.Lack.{Lack};
+ghost use Rattle.pipe_model.specs.declared.reply.Reply.TheVariants.{Declined};
+ghost use Rattle.world_core.specs.Lacking.{IsLacking};
 ghost use Rattle.world_core.specs.Heard.{IsHeard};
 ghost use Rattle.pipe_model.specs.Causes.{kept_cause, CausesAreShown};
 ghost use Rattle.pipe_model.specs.Wires.{unlanded};
-ghost use Rattle.world_core.specs.OneLink.{the_link};
+ghost use Rattle.world_core.specs.OneLink.{the_link, the_keys};
 ghost use Rattle.world_core.specs.WireSteps.{EachPlaced};
 ghost use Rattle.world_core.specs.Directed.{IsUnderWay};
 ghost use Rattle.world_core.specs.Played.{IsOneLink, IsPlayed};
 
-/// Each key after an entry may be bound so: the one key of a side is always bound to its one RMB.
-pub fn keys_are_bound_lawfully()
-    ensures { (setup : Conditions) → IsOneLink setup → (payload : List ℕ) (e : Record) (past : List Record) (n : ℕ)
+/// No key is bound again before the lendings of its earlier RMB are done with: a side has no key, or its
+/// one key, which is bound to its one RMB.
+pub fn no_key_is_bound_again_too_early()
+    ensures again { (setup : Conditions) → IsOneLink setup → (payload : List ℕ) (e : Record) (past : List Record) (n : ℕ)
         → IsPlayed setup payload (e ∷ past) n → (x : Peer) → AreBound x e past }
+    ensures one { (setup : Conditions) → IsOneLink setup → (payload : List ℕ) (past : List Record) (n : ℕ)
+        → IsPlayed setup payload past n → (x : Peer) → (keys_of x past ≡ no_keys) ⊎ (keys_of x past ≡ the_keys x) }
 {}
 
 /// No end is ever reset, so there is no cause to show.
@@ -32,7 +38,7 @@ pub fn no_end_is_reset()
 {}
 
 /// No element is lent again before each earlier connection that it was lent to is done with.
-pub fn elements_are_lent_lawfully()
+pub fn no_element_is_lent_again_too_early()
     ensures { (setup : Conditions) → IsOneLink setup → (payload : List ℕ) (e : Record) (past : List Record) (n : ℕ)
         → IsPlayed setup payload (e ∷ past) n → (x : Peer) → IsLent x e past }
 {}
@@ -61,4 +67,11 @@ pub fn a_played_history_is_lawful()
         → IsPlayed setup payload past n → (heard : List ℕ) → IsHeard setup payload past heard → length heard ≡ n }
     ensures bytes { (setup : Conditions) (payload : List ℕ) (past : List Record)
         → (heard : List ℕ) × IsHeard setup payload past heard }
+{}
+
+/// What is declined is declined for a named lack that holds: not both sides are capable, they are in
+/// different subnets, or no element of a side is free.
+pub fn a_lack_is_named_only_where_it_holds()
+    ensures { (setup : Conditions) → IsOneLink setup → (payload : List ℕ) (e : Record) (past : List Record) (n : ℕ)
+        → IsPlayed setup payload (e ∷ past) n → (lack : Lack) → e.reply ≡ Declined lack → IsLacking setup payload past lack }
 {}

@@ -16,8 +16,9 @@ mod wire_laws;
 mod world;
 
 pub use lawful_laws::{
-    a_played_history_is_lawful, each_write_lands_home, each_write_under_way_is_directed,
-    elements_are_lent_lawfully, keys_are_bound_lawfully, no_end_is_reset,
+    a_lack_is_named_only_where_it_holds, a_played_history_is_lawful, each_write_lands_home,
+    each_write_under_way_is_directed, no_element_is_lent_again_too_early, no_end_is_reset,
+    no_key_is_bound_again_too_early,
 };
 pub use laws::{
     a_lending_is_where_an_offer_is, a_token_names_an_offer,
