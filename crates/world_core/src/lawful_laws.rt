@@ -1,18 +1,19 @@
 //! The histories that a world of one link makes are lawful. Each law is a function with nothing to do,
 //! whose contract is the law.
 
-ghost use Rattle.std.specs.Prelude.{◌≡◌, ◌⊎◌, ℕ, List, ◌∷◌, length, None};
+ghost use Rattle.std.specs.Prelude.{◌≡◌, ◌⊎◌, ℕ, List, ◌∷◌, length, None, true};
 ghost use Rattle.smc_num.specs.declared.Side.{Side as Peer};
 ghost use Rattle.pipe_model.specs.declared.setup.Setup.{Setup as Conditions};
 ghost use Rattle.pipe_model.specs.declared.entry.Entry.{Entry as Record};
+ghost use Rattle.pipe_model.specs.declared.event.Event.{Event as Asked};
 ghost use Rattle.pipe_model.specs.Keys.{AreBound, keys_of, no_keys};
 ghost use Rattle.pipe_model.specs.Lending.{IsLent};
 ghost use Rattle.pipe_model.specs.Home.{LandsHome};
-ghost use Rattle.pipe_model.specs.Lawful.{IsLawfulPast};
+ghost use Rattle.pipe_model.specs.Lawful.{IsLawfulPast, claims_bytes};
 ghost use Rattle.pipe_model.specs.declared.reply.Lack.{Lack};
 ghost use Rattle.pipe_model.specs.declared.reply.Reply.TheVariants.{Declined};
 ghost use Rattle.world_core.specs.Lacking.{IsLacking};
-ghost use Rattle.world_core.specs.Heard.{IsHeard};
+ghost use Rattle.world_core.specs.Heard.{IsHeard, all_bytes};
 ghost use Rattle.pipe_model.specs.Causes.{kept_cause, CausesAreShown};
 ghost use Rattle.pipe_model.specs.Wires.{unlanded};
 ghost use Rattle.world_core.specs.OneLink.{the_link, the_keys};
@@ -57,16 +58,25 @@ pub fn each_write_lands_home()
         → IsPlayed setup payload (e ∷ past) n → LandsHome setup payload e.event e.reply past }
 {}
 
-/// Every history that is played is lawful, with any bytes that its answers may have handed out; those are
-/// as many as it counts, and such bytes there are.
+/// Every history that is played is lawful, with any bytes that its answers may have handed out.
 pub fn a_played_history_is_lawful()
-    ensures lawful { (setup : Conditions) → IsOneLink setup → (payload : List ℕ) (past : List Record) (n : ℕ)
+    ensures { (setup : Conditions) → IsOneLink setup → (payload : List ℕ) (past : List Record) (n : ℕ)
         → IsPlayed setup payload past n → (heard : List ℕ) → IsHeard setup payload past heard
         → IsLawfulPast setup payload past heard }
+{}
+
+/// All bytes that are read are claimed, so what a history hands out are the bytes of its answers and no
+/// others, and as many as it counts.
+pub fn what_is_heard_are_the_bytes_of_the_answers()
+    ensures claimed { (setup : Conditions) → IsOneLink setup → (payload : List ℕ) (past : List Record) (n : ℕ)
+        → IsPlayed setup payload past n → (event : Asked) → claims_bytes setup payload past event ≡ true }
+    ensures these { (setup : Conditions) (payload : List ℕ) (past : List Record)
+        → IsHeard setup payload past (all_bytes setup payload past) }
+    ensures only { (setup : Conditions) → IsOneLink setup → (payload : List ℕ) (past : List Record) (n : ℕ)
+        → IsPlayed setup payload past n → (heard : List ℕ) → IsHeard setup payload past heard
+        → heard ≡ all_bytes setup payload past }
     ensures count { (setup : Conditions) (payload : List ℕ) (past : List Record) (n : ℕ)
         → IsPlayed setup payload past n → (heard : List ℕ) → IsHeard setup payload past heard → length heard ≡ n }
-    ensures bytes { (setup : Conditions) (payload : List ℕ) (past : List Record)
-        → (heard : List ℕ) × IsHeard setup payload past heard }
 {}
 
 /// What is declined is declined for a named lack that holds: not both sides are capable, they are in

@@ -18,7 +18,7 @@ mod world;
 pub use lawful_laws::{
     a_lack_is_named_only_where_it_holds, a_played_history_is_lawful, each_write_lands_home,
     each_write_under_way_is_directed, no_element_is_lent_again_too_early, no_end_is_reset,
-    no_key_is_bound_again_too_early,
+    no_key_is_bound_again_too_early, what_is_heard_are_the_bytes_of_the_answers,
 };
 pub use laws::{
     a_lending_is_where_an_offer_is, a_token_names_an_offer,
