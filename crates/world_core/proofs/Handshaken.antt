@@ -14,6 +14,8 @@ use Rattle.world_core.proofs.Shaken.{Choice, only-link, offer-link, offer-answer
 use Rattle.world_core.proofs.Tokens.{AreCounted, none-counted, counted-step}
 use Rattle.world_core.proofs.Groups.{no-group-ends}
 use Rattle.world_core.proofs.Rising.{comes-named, comes-offered, is-calm}
+use Rattle.world_core.specs.Due.{PostsDue}
+use Rattle.world_core.proofs.Due.{posts-due}
 use Rattle.world_core.proofs.OneSender.{posts-few}
 use Rattle.world_core.proofs.Agreed.{draft-items}
 use Rattle.world_core.proofs.EntryItems.{items-are, below-is}
@@ -90,3 +92,12 @@ module _ (setup : Setup) (one : IsOneLink setup) (payload : List ℕ) where
         goes_on = go;
         way = λ x. way payload past e setup p.0 x only p.1;
       }
+
+  -- what the pipes post is due
+  pub posts-what-is-due : (e : Entry) (past : List Entry) (n : ℕ) (p : IsPlayed setup payload (e ∷ past) n) → PostsDue setup payload (draft setup payload past p.0 e.event) e past
+  posts-what-is-due e past n p =
+      let w = played setup one payload past p.0 p.3 in
+      let world = w.world in
+      let v = goes setup one payload w.stage p.0 e past p.1 world in
+      let offers = has-offers past p.0 p.3 in
+      posts-due setup payload e past p.0 p.0 p.1 p.3 offers (only-link setup w.stage past world.link) (goes-on e past p.0 p.1 w.stage v.stage world v.world offers) (shaken past p.0 p.3) (is-calm setup w.stage v.stage e past world v.world)

@@ -262,7 +262,7 @@ below n (l ∷ ls) a q h = by_test (q == l.s) refl h (below n ls a.1 q)
     by_test true e g rest = let same = eqb-true q l.s e in let low = a.0 in omega (arith, same, low)
     by_test false e g rest = rest g
 
-at-most : (n : ℕ) (ls : List Lending) → HaveSockets ls → EachLending (λ l. l.s < n) ls → length ls ≤ n
+pub at-most : (n : ℕ) (ls : List Lending) → HaveSockets ls → EachLending (λ l. l.s < n) ls → length ls ≤ n
 at-most n ls h a =
     let le = length-le_from_distinct_below (map (λ l. l.s) ls) n (distinct ls h) (below n ls a) in
     let same : length (map (λ l. l.s) ls) ≡ length ls = length-map ls (λ l. l.s) in

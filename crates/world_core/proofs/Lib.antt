@@ -12,8 +12,10 @@ pub mod Counts
 pub mod DataPosts
 pub mod Declines
 pub mod DirectedWrites
+pub mod Due
 pub mod EntryItems
 pub mod Feasible
+pub mod FewUps
 pub mod Groups
 pub mod Growth
 pub mod Handshaken
@@ -30,6 +32,7 @@ pub mod LinkMoves
 pub mod LinkRoom
 pub mod Lists
 pub mod Moves
+pub mod NeverOver
 pub mod NewOffers
 pub mod NoResets
 pub mod Offers

@@ -21,7 +21,7 @@ use Rattle.pipe_model.specs.Pipe.{Terms, Item, Fate, half, is_near_part, posts_o
 use Rattle.pipe_model.specs.Ends.{Half, is_over, to_land, to_complete}
 use Rattle.pipe_model.specs.Parts.{IsFeasible, has_swallow}
 use Rattle.pipe_model.specs.Connections.{comes_up, is_up, ups, fates, deeds, if_own, items, part, group_on}
-use Rattle.pipe_model.specs.Lending.{terms_of, pipe_of}
+use Rattle.pipe_model.specs.Lending.{terms_of, pipe_of, lends_by, record_of}
 use Rattle.pipe_model.specs.Posts.{sent_posts, connection_posts}
 use Rattle.world_core.specs.OneLink.{the_link}
 use Rattle.pipe_model.specs.Lawful.{draft}
@@ -134,3 +134,8 @@ pub record GivesItems (setup : Setup) (payload : List ℕ) (before : ℕ) (e : E
 -- the peer of its end offered
 abbrev pub IsOwnUnderToken : Item → Side → ℕ → PostRef → Offered → Post → List Entry → Type 0
 IsOwnUnderToken item x s at o post past = offered (other x) s past ≡ Some o → post_at at past ≡ Some post → if_own item x s (Some at) past ≡ (if is_cdc x o.offer.token post then item ∷ [] else [])
+
+-- that the token of a CDC message which lands next names the record of the end that its sender's peer offered, so that it is not dropped
+pub record NamesRecord (setup : Setup) (payload : List ℕ) (x : Side) (past : List Entry) (m : CdcMessage) : Type 0 where
+  pub spelling : Spelling setup payload x past m next_to_land
+  pub named : record_of setup payload (other x) m.token past ≡ Some (lends_by spelling.s the_link spelling.offer.offer)

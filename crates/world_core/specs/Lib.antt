@@ -1,6 +1,7 @@
 pub mod Agreement
 pub mod Connection
 pub mod Directed
+pub mod Due
 pub mod Heard
 pub mod Lacking
 pub mod Lent

@@ -30,9 +30,10 @@ pub use laws::{
 };
 pub use pipe_model::StepFault;
 pub use wire_laws::{
-    an_entry_gives_deeds_and_fates, no_end_closes, offers_differ_in_their_tokens,
-    own_messages_are_those_under_the_token, posts_on_a_wire_stand_in_the_history,
-    the_link_has_room, the_pipes_post_one_batch_at_most, what_completes_is_next_to_complete,
-    what_lands_is_next_to_land, wires_and_pipes_agree,
+    an_entry_gives_deeds_and_fates, no_end_closes, no_lending_was_ever_over, no_message_is_dropped,
+    offers_differ_in_their_tokens, own_messages_are_those_under_the_token,
+    posts_on_a_wire_stand_in_the_history, the_link_fits_the_elements, the_link_has_room,
+    the_pipes_post_one_batch_at_most, the_pipes_post_what_is_due,
+    what_completes_is_next_to_complete, what_lands_is_next_to_land, wires_and_pipes_agree,
 };
 pub use world::{NewFault, World};
