@@ -3,12 +3,15 @@ pub mod Agreement
 pub mod AskedPosts
 pub mod Batched
 pub mod Batches
+pub mod BoundKeys
 pub mod Carried
 pub mod Carrying
 pub mod ClcMoves
 pub mod Confirmations
 pub mod Counts
 pub mod DataPosts
+pub mod Declines
+pub mod DirectedWrites
 pub mod Due
 pub mod EntryItems
 pub mod Feasible
@@ -18,9 +21,11 @@ pub mod Growth
 pub mod Handshaken
 pub mod Handshakes
 pub mod Heads
+pub mod HomeLandings
 pub mod Idle
 pub mod InHistory
 pub mod Landings
+pub mod LawfulPasts
 pub mod LendingFacts
 pub mod LinkFacts
 pub mod LinkMoves
@@ -29,6 +34,7 @@ pub mod Lists
 pub mod Moves
 pub mod NeverOver
 pub mod NewOffers
+pub mod NoResets
 pub mod Offers
 pub mod OneSender
 pub mod OpenEnds
@@ -42,8 +48,10 @@ pub mod PlayedWorlds
 pub mod Quiet
 pub mod QuietEvents
 pub mod Records
+pub mod Relending
 pub mod Rising
 pub mod Senders
+pub mod SentBatches
 pub mod Shaken
 pub mod Sound
 pub mod StandingLendings

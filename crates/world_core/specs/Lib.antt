@@ -1,6 +1,9 @@
 pub mod Agreement
 pub mod Connection
+pub mod Directed
 pub mod Due
+pub mod Heard
+pub mod Lacking
 pub mod Lent
 pub mod OneLink
 pub mod Played

@@ -10,10 +10,16 @@
 #![tactic(auto)]
 
 mod connection;
+mod lawful_laws;
 mod laws;
 mod wire_laws;
 mod world;
 
+pub use lawful_laws::{
+    a_lack_is_named_only_where_it_holds, a_played_history_is_lawful, each_write_lands_home,
+    each_write_under_way_is_directed, no_element_is_lent_again_too_early, no_end_is_reset,
+    no_key_is_bound_again_too_early, what_is_heard_are_the_bytes_of_the_answers,
+};
 pub use laws::{
     a_lending_is_where_an_offer_is, a_token_names_an_offer,
     an_end_of_a_pipe_is_up_where_the_end_is, an_end_that_is_not_up_posts_nothing,
