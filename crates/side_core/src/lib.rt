@@ -2,5 +2,6 @@
 #![tactic(auto)]
 
 mod route;
+mod shelf;
 
 pub use route::{Route, Way};
