@@ -1,1 +1,4 @@
+pub mod Acting
+pub mod Dues
+pub mod Keeping
 pub mod Shelving

@@ -124,7 +124,7 @@ key_within held keys slots s view within = subst (λ n. s < n) (sym (ap length v
 -- what a shelf shows once a record was written
 pub written : (held : Slab Held) (keys : List (Option ℕ)) (s key : ℕ) (h : Held) → IsShelf held keys → get_or keys s None ≡ Some key → ContainsKey held key → slots_of (with_value held key h) keys ≡ with_slot s (Some (conn_of h.record)) (slots_of held keys)
 written held keys s key h own is there =
-    ap₂ (λ (a : List (Option (Connection Kept))) (n : ℕ). let v : Slots = record { slots = a; room = held.capacity - n } in v)
+    ap₂ (λ (a : List (Option (Connection Kept))) (n : ℕ). let v : Slots = record { slots = a; room = held.capacity - n; capacity = held.capacity } in v)
     (write_slots held (with_value held key h) keys s key h own is (Updates-with_value held key h there))
     (as_many held.slots key h there)
   where

@@ -3,8 +3,8 @@
 use Rattle.std.specs.Prelude.{ℕ, Some}
 use Rattle.std.specs.Borrow.{MutBor, Fml, Lends}
 use Rattle.side_core.specs.Slots.{Slots, conn_of, with_slot}
-use Rattle.side_core.specs.declared.shelf.Record.{Record}
-use Rattle.side_core.specs.contracts.shelf.Record.{the_row as record_row}
+use Rattle.side_core.specs.declared.record.Record.{Record}
+use Rattle.side_core.specs.contracts.record.Record.{the_row as record_row}
 use Rattle.side_core.specs.contracts.shelf.Shelf.{the_row}
 
 -- the shelf ends with the last record written through r at a socket

@@ -1,4 +1,6 @@
+pub mod Comings
 pub mod Desk
+pub mod Inside
 pub mod Lends
 pub mod Manager
 pub mod Posting

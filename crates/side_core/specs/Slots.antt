@@ -4,13 +4,14 @@ use Rattle.std.specs.Prelude.{◌≡◌, ℕ, ◌-◌, List, map, slice_index_or
 use Rattle.slab.specs.Slab.{Slab, slab_len}
 use Rattle.conn_end.specs.Kept.{Kept}
 use Rattle.side_core.specs.Records.{Connection}
-use Rattle.side_core.specs.declared.shelf.Record.{Record}
+use Rattle.side_core.specs.declared.record.Record.{Record}
 use Rattle.side_core.specs.declared.shelf.Held.{Held}
 
--- records by socket, none where a socket has no connection, and how many more there is room for
+-- records by socket, none where a socket has no connection, how many more there is room for, and how many there may be
 pub record Slots : Type 0 where
   pub slots : List (Option (Connection Kept))
   pub room : ℕ
+  pub capacity : ℕ
 
 -- the connection of a record
 abbrev pub conn_of : Record → Connection Kept
@@ -23,7 +24,7 @@ found held (Some key) = option_map (λ h. conn_of h.record) (slice_index_or held
 
 -- what a slab of records and the sockets' keys show
 abbrev pub slots_of : Slab Held → List (Option ℕ) → Slots
-slots_of held keys = record { slots = map (found held.slots) keys; room = held.capacity - slab_len held }
+slots_of held keys = record { slots = map (found held.slots) keys; room = held.capacity - slab_len held; capacity = held.capacity }
 
 -- the record of a socket
 abbrev pub slot_at : ℕ → Slots → Option (Connection Kept)

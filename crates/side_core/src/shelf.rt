@@ -4,19 +4,11 @@ ghost use Rattle.std.specs.Borrow.{sem};
 ghost use Rattle.side_core.specs.Slots.{conn_of, slot_at, with_slot};
 ghost use Rattle.side_core.specs.Lends.{LendsRecord};
 
-use crate::route::Route;
-use conn_end::ConnEnd;
+use crate::record::Record;
 use slab::Slab;
 use smc_num::NoMemory;
 use std::alloc::Global;
 use std::marker::Model;
-
-/// What a side keeps of a connection: its route and its end.
-#[derive(Drop)]
-pub struct Record {
-    pub route: Route,
-    pub end: ConnEnd,
-}
 
 // A record with its socket.
 #[derive(Drop)]
@@ -47,12 +39,20 @@ impl Shelf {
     pub fn new(alloc: Global, sockets: u32, most: u16) -> Result<Shelf, NoMemory>
         ensures slots { IfOk result (λ v. v.slots ≡ replicate sockets None) }
         ensures room { IfOk result (λ v. most ≤ v.room) }
+        ensures capacity { IfOk result (λ v. v.room ≡ v.capacity) }
     {
         let keys = no_keys(alloc, sockets)?;
         let Ok(held) = Slab::with_capacity(alloc, most as usize) else {
             return Err(NoMemory);
         };
         Ok(Shelf { keys, held })
+    }
+
+    /// How many records there may be.
+    pub fn capacity(&self) -> usize
+        ensures { result ≡ self.now.capacity }
+    {
+        self.held.capacity()
     }
 
     /// The record of a socket.
@@ -86,6 +86,7 @@ impl Shelf {
         requires room { 0 < self.old.room }
         ensures slots { self.new.slots ≡ slice_set self.old.slots s (Some (conn_of filed)) }
         ensures room { self.new.room + 1 ≡ self.old.room }
+        ensures capacity { self.new.capacity ≡ self.old.capacity }
     {
         let key = self.held.insert_reserved(Held { s, record: filed });
         self.keys[s as usize] = Some(key);
@@ -97,6 +98,8 @@ impl Shelf {
         ensures taken { slot_at s self.old ≡ Some (conn_of result) }
         ensures slots { self.new.slots ≡ slice_set self.old.slots s None }
         ensures room { self.new.room ≡ self.old.room + 1 }
+        ensures capacity { self.new.capacity ≡ self.old.capacity }
+        ensures most { self.new.room ≤ self.new.capacity }
     {
         let Some(key) = self.keys[s as usize] else {
             unreachable!()
