@@ -1,1 +1,6 @@
+pub mod Acting
+pub mod Dues
+pub mod Keeping
 pub mod OneRmb
+pub mod Shelving
+pub mod Tokens
