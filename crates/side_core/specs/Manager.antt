@@ -56,9 +56,8 @@ new_manager x setup = record {
   regions = map (λ rmb. fresh rmb (elements_of setup x) (element_size setup)) (up_to (rmbs_of setup x));
 }
 
--- a plain end is tied to the links of its side: one that is established is on the link of its route, and it knows the live ones
+-- a plain end is tied to the links of its side: it knows the live ones
 pub record IsTied (known : List Known) (c : Connection Half) : Type 0 where
-  pub link : c.route.up ≡ true → c.end.link ≡ c.route.link
   pub live : c.end.live ≡ live_links known
 
 -- that of what may be no connection

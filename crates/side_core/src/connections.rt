@@ -90,6 +90,13 @@ impl Connections {
         })
     }
 
+    /// How many tokens this side has given.
+    pub fn tokens(&self) -> u32
+        ensures { result ≡ self.now.tokens }
+    {
+        self.by_token.len() as u32
+    }
+
     /// The route of a socket's connection.
     pub fn route(&self, s: u32) -> Option<Route>
         ensures { result ≡ route_at s self.now }

@@ -1,16 +1,26 @@
 //! What a side does with a CLC message: step by step of the handshake (RFC 7609, section 3.5).
-ghost use Rattle.std.specs.Prelude.{◌≡◌, ◌++◌, ◌∷◌, ◌≤◌, ◌<◌, ◌==◌, ◌-◌, ◌^◌, ◌+◌, All, false, true, length, [], None, Some, IsSome, not};
-ghost use Rattle.smc_num.specs.Links.{live_links};
+ghost use Rattle.smc_num.specs.Places.{rmb_at};
+ghost use Rattle.side_core.specs.Setups.{CanBegin, CanStart};
+ghost use Rattle.side_core.specs.Records.{begins, conn_at, route_at};
+ghost use Rattle.side_core.specs.Fit.{Allows, IsOneSlot, beside};
+ghost use Rattle.side_core.specs.Desk.{first_link, lends_next, made_on, pair_at};
+ghost use Rattle.side_core.specs.Acting.{IsSoundAt, risen_at, way_of};
+ghost use Rattle.pipe_model.specs.declared.post.Post.TheVariants.{Clc, Llc};
+ghost use Rattle.pipe_model.specs.Messages.{confirm_link, refusal};
+ghost use Rattle.element_ledger.specs.Lendings.{IsLent};
+ghost use Rattle.clc_wire.specs.declared.message.ClcMessage.TheVariants.{Accept, Confirm, Decline as DeclineMessage};
+ghost use Rattle.std.specs.Prelude.{if◌then◌else◌, IfSome, IsSomeAnd, Bool, List, ◌≡◌, ◌++◌, ◌∷◌, ◌≤◌, ◌<◌, ◌==◌, ◌-◌, ◌^◌, ◌+◌, All, false, true, length, [], None, Some, IsSome, not, IfSome, IsSomeAnd, List, Bool};
+ghost use Rattle.smc_num.specs.Links.{live_links, first_live};
 ghost use Rattle.clc_handshake.specs.Stages.{named_group};
 ghost use Rattle.pipe_model.specs.Ends.{Half};
-ghost use Rattle.pipe_model.specs.Replies.{step_told};
+ghost use Rattle.pipe_model.specs.Replies.{step_told, ready_told};
 ghost use Rattle.side_core.specs.Manager.{Manager, Works};
-ghost use Rattle.side_core.specs.Taking.{accepts};
+ghost use Rattle.side_core.specs.Taking.{accepts, quits, rises_at, IsOffer, is_ready, asks_link, starts, first_confirms, later_confirms, by_verdict, verdict_posts, verdict_risen, offered_link, hears, offer_for};
 
 use crate::connections::Connections;
 use crate::desk::Desk;
 use crate::messages;
-use crate::route::Way;
+use crate::route::{Route, Way};
 use arrayvec::ArrayVec;
 use pipe_model::{
     ClcMessage, ClcStep, Hold, Lack, LinkId, Offer, Post, Reply, ResetCause, SentKind,
@@ -225,7 +235,7 @@ fn be_ready(
 
 /// CONFIRM LINK for a link.
 fn ask_link(desk: &Desk, link: LinkId, posts: &mut ArrayVec<Post, 6>)
-    requires { length posts.old.items ≤ 5 }
+    requires room { length posts.old.items ≤ 5 }
     requires slot { (1 ≤ link.slot) × (link.slot ≤ 8) }
     ensures { posts.new.items ≡ posts.old.items ++ Llc desk.now.side link (confirm_link desk.now.setup desk.now.side false link (pair_at link.slot desk.now)) ∷ [] }
 {

@@ -1,4 +1,4 @@
-use Rattle.std.proofs.Common.{◌≡◌, ◌∙◌, ℕ, Option, ◌++◌, List, [], sym, ap, subst, Some, None}
+use Rattle.std.proofs.Common.{◌∙◌, ℕ, Option, ◌++◌, List, sym, ap, subst}
 use Rattle.std.proofs.lemmas.List.{append-nil}
 use Rattle.clc_wire.specs.declared.offer.Offer.{Offer}
 use Rattle.pipe_model.specs.declared.post.Post.{Post}
