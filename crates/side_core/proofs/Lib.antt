@@ -1,1 +1,5 @@
+pub mod Allowed
+pub mod Counting
+pub mod Halves
 pub mod OneRmb
+pub mod Verdicts
