@@ -1,6 +1,10 @@
 pub mod Acting
+pub mod Allowed
+pub mod Counting
 pub mod Dues
+pub mod Halves
 pub mod Keeping
 pub mod OneRmb
 pub mod Shelving
 pub mod Tokens
+pub mod Verdicts
