@@ -1,10 +1,12 @@
 pub mod Acting
+pub mod Acts
 pub mod Allowed
 pub mod Counting
 pub mod Dues
 pub mod Halves
 pub mod Keeping
 pub mod OneRmb
+pub mod Seats
 pub mod Shelving
 pub mod Tokens
 pub mod Verdicts

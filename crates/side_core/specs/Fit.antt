@@ -77,6 +77,7 @@ pub record IsFit (m : Manager Half) : Type 0 where
   pub tokens : m.records.tokens ≤ length m.records.by_socket
   pub quiet : (m.desk.group == 0) ≡ true → m.desk.links.known ≡ []
   pub room : (m.desk.group == 0) ≡ true → 0 < m.records.spare
+  pub unconfirmed : (m.desk.group == 0) ≡ true → m.desk.confirmed ≡ []
   pub confirmed : (m.desk.group == 0) ≡ false → m.desk.confirmed ≡ 1 ∷ []
   pub live : (m.desk.group == 0) ≡ false → is_first_contact m.desk.flow.link ≡ false → IsSome (first_live m.desk.links.known)
   pub suits : (s : ℕ) → Suits (state_at s m) (route_at s m.records)
