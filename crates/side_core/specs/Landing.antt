@@ -1,6 +1,6 @@
 -- Messages of the peer that land, and a side's own that complete.
 -- A reader learns here which end takes a message, what a caller must see to then, and what is told where no end takes it.
-use Rattle.std.specs.Prelude.{◌≡◌, ℕ, ◌&&◌, Bool, true, false, List, [], ◌∷◌, Option, Some, None, ◌+◌}
+use Rattle.std.specs.Prelude.{◌≡◌, ℕ, ◌&&◌, ◌==◌, Bool, true, false, List, [], ◌∷◌, Option, Some, None, ◌+◌}
 use Rattle.smc_num.specs.declared.Side.{Side}
 use Rattle.smc_num.specs.declared.Side.TheVariants.{A, B}
 use Rattle.smc_num.specs.declared.LinkId.{LinkId}
@@ -26,7 +26,7 @@ use Rattle.side_core.specs.Records.{Connection, conn_at, half_at, holder, aimer}
 use Rattle.side_core.specs.Desk.{Desk, made_on}
 use Rattle.side_core.specs.Manager.{Manager, with_hand}
 use Rattle.side_core.specs.Acting.{IsSoundAt}
-use Rattle.side_core.specs.Comings.{MayArriveAt, ArrivesAt, MayCompleteAt, CompletesAt}
+use Rattle.side_core.specs.Comings.{MayArriveAt, ArrivesAt, MayCompleteAt, CompletesAt, MayGo}
 
 -- the end of a socket begins its handshake
 abbrev pub opens_at : {E : Type 0} → ℕ → Bool → Manager E → Manager E
@@ -49,6 +49,7 @@ opening_posts s d = opening_of d.side s d
 pub record CanMake (link : LinkId) (d : Desk) : Type 0 where
   pub slot : link.slot ≡ 1
   pub group : link.group ≡ d.group
+  pub begun : (d.group == 0) ≡ false
   pub none : is_standing (phase_at link.slot d.links.known) ≡ false
   pub next : link.incarnation ≡ made_on link.slot d + 1
 
@@ -85,6 +86,12 @@ pub record MayCompleteIn (message : CdcMessage) (plain : Snapshot) (v : Manager 
 pub record CompletesIn (s : ℕ) (message : CdcMessage) (plain : Snapshot) (sent : Sent) (v : Manager Kept) (m : Manager Half) : Type 0 where
   pub aimed : aimer message.token v.records ≡ Some s
   pub completes : CompletesAt message plain sent (conn_at s v.records) (conn_at s m.records)
+
+-- what a caller must see to where the bytes of a write are asked for: the end whose peer gave the token keeps them
+pub record MayGoOut (token address len : ℕ) (v : Manager Kept) : Type 0 where
+  pub socket : ℕ
+  pub aimed : aimer token v.records ≡ Some socket
+  pub goes : MayGo v.records.terms.size (conn_at socket v.records) address len
 
 -- what a call of the end of a socket is told, where its peer has accepted these bytes
 abbrev pub told_at : ℕ → Call → List ℕ → Manager Half → Told

@@ -31,6 +31,10 @@ abbrev pub hand_of : Option Hand → Hand
 hand_of None = no_hand
 hand_of (Some hand) = hand
 
+-- the handshake of a socket, among those that a side keeps
+abbrev pub hand_in : ℕ → List (Option Hand) → Hand
+hand_in s hands = slice_index_or (map hand_of hands) s no_hand
+
 -- the handshake of a socket
 abbrev pub hand_at : {E : Type 0} → ℕ → Manager E → Hand
 hand_at s m = slice_index_or m.hands s no_hand

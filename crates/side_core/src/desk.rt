@@ -171,6 +171,13 @@ impl Desk {
         &self.setup
     }
 
+    /// How many elements its RMB has.
+    pub fn elements(&self) -> u8
+        ensures { result ≡ elements_of self.now.setup self.now.side }
+    {
+        elements(&self.setup, self.side)
+    }
+
     /// Its group, 0 for none.
     pub fn group(&self) -> u32
         ensures { result ≡ self.now.group }

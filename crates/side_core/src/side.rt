@@ -1,15 +1,38 @@
-//! The manager of one side.
-ghost use Rattle.std.specs.Prelude.{◌≡◌, ◌++◌, ◌∷◌, ◌≤◌, ◌<◌, ◌==◌, ◌×◌, false, true, length, [], None, Some, IsSome, IfOk, IfSome, unwrap_or, drop, option_map, List};
+//! The manager of one side (RFC 7609): what its applications call, and what the messages and writes of its
+//! peer make of it.
+ghost use Rattle.std.specs.Prelude.{◌≡◌, ◌++◌, ◌∷◌, ◌≤◌, ◌<◌, ◌^◌, ◌+◌, ◌-◌, ℕ, false, true, length, map, replicate, slice_set, slice_index_or, [], None, Some, IsSome, IsSomeAnd, IfOk, IfSome, unwrap_or, take as front, drop, option_map, List};
 ghost use Rattle.smc_num.specs.Names.{no_link};
-ghost use Rattle.smc_num.specs.Links.{link_at, phase_at, is_standing};
-ghost use Rattle.clc_handshake.specs.Stages.{first_state, seen_state};
-ghost use Rattle.pipe_model.specs.Ends.{Half};
-ghost use Rattle.pipe_model.specs.Connections.{NoEnd, HasFallen};
-ghost use Rattle.side_core.specs.Manager.{Manager, StandsFor, new_manager, state_at, hand_at, with_hand};
+ghost use Rattle.smc_num.specs.declared.Side.TheVariants.{A};
+ghost use Rattle.smc_num.specs.Links.{link_at, phase_at};
+ghost use Rattle.smc_num.specs.Keys.{rmb_bound};
+ghost use Rattle.smc_num.specs.Places.{rmb_at};
+ghost use Rattle.rmb_region.specs.Regions.{fresh, lands as lands_in, IsInside};
+ghost use Rattle.clc_handshake.specs.Stages.{seen_state, after_step};
+ghost use Rattle.pipe_model.specs.declared.reply.Reply.{Reply as Says};
+ghost use Rattle.pipe_model.specs.declared.sent.Sent.{Sent};
+ghost use Rattle.pipe_model.specs.declared.verdict.ClcStep.TheVariants.{AskKey};
+ghost use Rattle.pipe_model.specs.declared.post.Post.TheVariants.{Llc};
+ghost use Rattle.pipe_model.specs.Calls.{Plain, Writes, Reads};
+ghost use Rattle.pipe_model.specs.Connections.{NoEnd, IsUp, WaitsLink};
+ghost use Rattle.pipe_model.specs.Ends.{Half, takes, completes};
+ghost use Rattle.pipe_model.specs.Flows.{flow_step};
+ghost use Rattle.pipe_model.specs.Handshake.{verdict};
+ghost use Rattle.pipe_model.specs.Messages.{confirm_link};
+ghost use Rattle.pipe_model.specs.Replies.{expects};
+ghost use Rattle.conn_end.specs.Told.{Answers, told_of};
+ghost use Rattle.side_core.specs.Acting.{IsSoundAt, MayConfirm, MayHand, MayRise, hands_after, posts_after, reply_of_desk, rises_first, MayWrite, acts_at, buffer_of, bytes_land, call_of, confirm_reply, confirming_posts, confirms_link, due_at, handed_from, handed_out, risen_at, way_of};
+ghost use Rattle.side_core.specs.Comings.{IsGoingAt};
+ghost use Rattle.side_core.specs.Desk.{makes_link, pair_at};
+ghost use Rattle.side_core.specs.Landing.{CanMake, CompletesIn, LandsIn, MayCompleteIn, MayGoOut, MayLandIn, dropped, falls_at, is_wait, opening_posts, opens_at, told_at};
+ghost use Rattle.side_core.specs.Manager.{Manager, StandsFor, Works, hand_in, hand_of, new_manager, no_hand, state_at};
+ghost use Rattle.side_core.specs.Records.{aimer, conn_at, half_at, holder, route_at};
+ghost use Rattle.side_core.specs.Setups.{IsSet};
+ghost use Rattle.side_core.specs.Taking.{MayTake, rises_at, takes_message, taking_posts, taking_told, verdict_at, with_desk};
 
 use crate::connections::Connections;
 use crate::desk::Desk;
 use crate::messages;
+use crate::route::{Route, Way};
 use crate::taking::{carry_out, rise, told, way};
 use arrayvec::ArrayVec;
 use cdc_wire::CdcMessage;
@@ -17,10 +40,11 @@ use clc_handshake::{EndState, Handshake};
 use conn_end::EndReply;
 use llc_wire::LlcMessage;
 use pipe_model::{
-    ClcMessage, ClcStep, FlowStep, LinkId, LinkPhase, LinkView, Post, Reply, Setup, Side, Snapshot,
+    ClcMessage, ClcStep, FlowStep, Lacks, LinkId, LinkPhase, LinkView, Post, Reply, Setup, Side,
+    Snapshot,
 };
 use rmb_region::Region;
-use smc_num::NoMemory;
+use smc_num::{NoMemory, size_of_code};
 use std::alloc::Global;
 use std::marker::Model;
 
@@ -140,7 +164,7 @@ impl SideCore {
 
     /// The phase of that link here.
     pub fn phase(&self, slot: u8) -> LinkPhase
-        requires { (1 ≤ slot) × (slot ≤ 1) }
+        requires { slot ≡ 1 }
         ensures { result ≡ phase_at slot self.now.desk.links.known }
     {
         self.desk.phase(slot)
@@ -293,14 +317,14 @@ impl SideCore {
         ensures posts { (m : Manager Half) → StandsFor self.old m → posts.new.items ≡ posts.old.items ++ confirming_posts result link m }
     {
         let step = self.desk.land(link, message, view);
-        if let FlowStep::Live { reply, first } = step {
-            if reply {
-                self.reply_link(link, posts);
-            }
-            if first {
-                self.rise_first(posts);
-            }
-        }
+        confirmed(
+            &self.desk,
+            &mut self.hands,
+            &mut self.connections,
+            step,
+            link,
+            posts,
+        );
         step
     }
 
@@ -338,18 +362,24 @@ impl SideCore {
         ensures posts { (m : Manager Half) → StandsFor self.old m → posts.new.items ≡ posts.old.items ++ due_at s (call_of (Reads (length out.old)) m) m }
     {
         let way = self.way(s);
+        let route = self.connections.route(s);
         let reply = self.connections.read(s, out.len() as u32, way, posts);
-        if let EndReply::Take { from, len } = reply {
-            self.copy_out(s, from, &mut out[..len as usize]);
-        }
+        hand_out(&self.regions, route, reply, out);
         reply
     }
 
     /// The bytes of a write that an end here posted, in two parts. The token is that of the CDC message
     /// that follows the write.
     pub fn outgoing(&self, token: u32, address: u64, len: u32) -> (&[u8], &[u8])
+        requires { MayGoOut token address len self.now }
+        ensures { (s : ℕ) (h : Half) (first : ℕ) → aimer token self.now.records ≡ Some s
+            → IsGoingAt self.now.records.terms.size (conn_at s self.now.records) address len h first
+            → result.0.now ++ result.1.now ≡ front len (drop first h.out) }
     {
-        ...
+        let Some(s) = self.connections.aimer(token) else {
+            unreachable!()
+        };
+        self.connections.outgoing(s, address, len)
     }
 
     /// The snapshot that the end whose messages carry this token posted last.
@@ -357,9 +387,162 @@ impl SideCore {
         requires { IsSome (aimer token self.now.records) }
         ensures { (m : Manager Half) (s : ℕ) → StandsFor self.now m → aimer token self.now.records ≡ Some s → result ≡ (half_at s m.records).last }
     {
-        match self.connections.aimer(token) {
-            Some(s) => self.connections.last(s),
-            None => NO_SNAPSHOT,
+        let Some(s) = self.connections.aimer(token) else {
+            unreachable!()
+        };
+        self.connections.last(s)
+    }
+}
+
+/// So many sockets, none with an end.
+fn no_hands(alloc: Global, sockets: u32) -> Result<Vec<Option<Handshake>>, NoMemory>
+    ensures { IfOk result (λ hands. map hand_of hands.items ≡ replicate sockets no_hand) }
+{
+    let Ok(mut hands) = Vec::with_capacity(alloc, sockets as usize) else {
+        return Err(NoMemory);
+    };
+    for _socket in 0..sockets {
+        hands.push_reserved(None);
+    }
+    Ok(hands)
+}
+
+/// The buffer of the one RMB.
+fn one_region(alloc: Global, elements: u8, size: u32) -> Result<Vec<Region>, NoMemory>
+    requires { 1 ≤ size }
+    ensures { IfOk result (λ regions. regions.items ≡ fresh 1 elements size ∷ []) }
+{
+    let region = Region::new(alloc, 1, elements, size)?;
+    let Ok(mut regions) = Vec::with_capacity(alloc, 1) else {
+        return Err(NoMemory);
+    };
+    regions.push_reserved(region);
+    Ok(regions)
+}
+
+/// What the handshake of a socket does with a message, by these facts.
+fn judge(
+    hands: &mut Vec<Option<Handshake>>,
+    s: u32,
+    message: &ClcMessage,
+    lacks: &Lacks,
+) -> ClcStep
+    requires { expects (hand_in s hands.old.items).state ≡ true }
+    ensures step { result ≡ verdict (hand_in s hands.old.items).raw (hand_in s hands.old.items).state message.now lacks.now }
+    ensures hands { map hand_of hands.new.items ≡ slice_set (map hand_of hands.old.items) s
+        (record (hand_in s hands.old.items) { state = after_step result message.now (hand_in s hands.old.items).state }) }
+{
+    let Some(hand) = &mut hands[s as usize] else {
+        unreachable!()
+    };
+    hand.on(message, lacks)
+}
+
+/// Whether a step is to wait.
+fn waits(step: ClcStep) -> bool
+    ensures { result ≡ is_wait step }
+{
+    matches!(step, ClcStep::Wait(_))
+}
+
+/// Bytes land at an address in the buffer of an RMB.
+fn land_in(regions: &mut Vec<Region>, rmb: u8, address: u64, front: &[u8], back: &[u8])
+    requires { IsInside address (length front.now + length back.now) (buffer_of rmb regions.old.items) }
+    ensures { regions.new.items ≡ slice_set regions.old.items (rmb - 1) (lands_in address (front.now ++ back.now) (buffer_of rmb regions.old.items)) }
+{
+    let Some(region) = regions.get_mut((rmb as usize).saturating_sub(1)) else {
+        return;
+    };
+    match region.land(address, front, back) {
+        Ok(()) => {}
+        Err(_) => unreachable!(),
+    }
+}
+
+/// What a link that is confirmed changes beside the desk: the end of the socket that is in first contact
+/// is established. The reply to CONFIRM LINK is posted first.
+fn confirmed(
+    desk: &Desk,
+    hands: &mut Vec<Option<Handshake>>,
+    connections: &mut Connections,
+    step: FlowStep,
+    link: LinkId,
+    posts: &mut ArrayVec<Post, 6>,
+)
+    requires slot { link.slot ≡ 1 }
+    requires first { MayRise step desk.now connections.old (hand_in desk.now.first hands.old.items) }
+    requires room { length posts.old.items ≤ 2 }
+    ensures works { (m : Manager Half) → Works desk.now connections.old m → Works desk.now connections.new (rises_first step m) }
+    ensures hands { map hand_of hands.new.items ≡ hands_after step desk.now.first (map hand_of hands.old.items) }
+    ensures posts { (m : Manager Half) → Works desk.now connections.old m → posts.new.items ≡ posts.old.items ++ posts_after step link m }
+{
+    match step {
+        FlowStep::Live { reply, first: true } => {
+            reply_link(desk, reply, link, posts);
+            rise(desk, connections, desk.first(), posts);
+            rise_hand(hands, desk.first());
         }
+        FlowStep::Live { reply, .. } => reply_link(desk, reply, link, posts),
+        _ => {}
+    }
+}
+
+/// The reply to CONFIRM LINK, where one is due.
+fn reply_link(desk: &Desk, reply: bool, link: LinkId, posts: &mut ArrayVec<Post, 6>)
+    requires room { length posts.old.items ≤ 5 }
+    requires slot { link.slot ≡ 1 }
+    ensures posts { posts.new.items ≡ posts.old.items ++ reply_of_desk reply link desk.now }
+    ensures few { length posts.new.items ≤ length posts.old.items + 1 }
+{
+    if reply {
+        posts.push(Post::Llc {
+            from: desk.side(),
+            link,
+            message: messages::confirm_link(
+                desk.setup(),
+                desk.side(),
+                true,
+                link,
+                desk.pair(link.slot),
+            ),
+        });
+    }
+}
+
+/// The handshake of a socket ends with its link.
+fn rise_hand(hands: &mut Vec<Option<Handshake>>, s: u32)
+    requires { (hand_in s hands.old.items).state ≡ WaitsLink }
+    ensures { map hand_of hands.new.items ≡ slice_set (map hand_of hands.old.items) s (record (hand_in s hands.old.items) { state = IsUp }) }
+{
+    let Some(hand) = &mut hands[s as usize] else {
+        unreachable!()
+    };
+    hand.rise();
+}
+
+/// Fills the front of `out` with the bytes that an answer to a read hands out.
+fn hand_out(regions: &[Region], route: Option<Route>, reply: EndReply, out: &mut [u8])
+    requires { MayHand reply route regions.now (length out.old) }
+    ensures { out.new ≡ handed_from reply route regions.now ++ drop (length (handed_from reply route regions.now)) out.old }
+{
+    if let (EndReply::Take { from, len }, Some(route)) = (reply, route) {
+        let region = &regions[route.element.rmb as usize - 1];
+        region.copy_out(route.element.index, from, &mut out[..len as usize]);
+    }
+}
+
+/// The reply to a call that hands out no bytes.
+fn reply_of(reply: EndReply) -> Reply
+    ensures { (rd : ℕ) (told : Says) → told_of reply rd [] ≡ Plain told → result ≡ told }
+{
+    match reply {
+        EndReply::Wrote(count) => Reply::Wrote(count),
+        EndReply::Full => Reply::Full,
+        EndReply::Take { .. } => Reply::Idle,
+        EndReply::Empty => Reply::Empty,
+        EndReply::End => Reply::End,
+        EndReply::Ended => Reply::Ended,
+        EndReply::Done => Reply::Done,
+        EndReply::Reset(cause) => Reply::Reset(cause),
     }
 }
