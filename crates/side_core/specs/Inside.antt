@@ -1,6 +1,6 @@
 -- What ties the parts of a side's table of connections.
 -- A reader learns here what each record says of the tables of tokens, and what every end was made with.
-use Rattle.std.specs.Prelude.{◌≡◌, ◌<◌, ◌≤◌, ℕ, ◌-◌, false, All, List, length, slice_get, Option, Some, None}
+use Rattle.std.specs.Prelude.{◌≡◌, ◌<◌, ◌≤◌, ℕ, ◌-◌, ◌==◌, if◌then◌else◌, false, All, List, length, slice_get, Option, Some, None}
 use Rattle.smc_num.specs.Places.{rmb_at}
 use Rattle.clc_wire.specs.declared.offer.Offer.{Offer}
 use Rattle.pipe_model.specs.Pipe.{Terms}
@@ -33,15 +33,14 @@ abbrev pub IsAimed : ℕ → Option Offer → Type 0
 IsAimed label None = Unit {0}
 IsAimed label (Some o) = IsOffered label o
 
--- that the token of an offer names the socket
-pub record IsNamed (by_peer : List ℕ) (s : ℕ) (o : Offer) : Type 0 where
-  pub some : 1 ≤ o.token
-  pub named : slice_get by_peer (o.token - 1) ≡ Some s
+-- the socket that a list of sockets by tokens has for a token; tokens begin at 1
+abbrev pub socket_named : ℕ → List ℕ → Option ℕ
+socket_named token sockets = if token == 0 then None else slice_get sockets (token - 1)
 
--- that of what may be no offer
+-- that the token of what may be no offer names the socket
 abbrev pub IsPeerNamed : List ℕ → ℕ → Option Offer → Type 0
 IsPeerNamed by_peer s None = Unit {0}
-IsPeerNamed by_peer s (Some o) = IsNamed by_peer s o
+IsPeerNamed by_peer s (Some o) = socket_named o.token by_peer ≡ Some s
 
 -- what holds of every connection alone: its end owes no validation, and its messages go to its peer
 pub record IsSet (c : Connection Kept) : Type 0 where
@@ -53,8 +52,7 @@ pub record IsSet (c : Connection Kept) : Type 0 where
 pub record IsFiled (terms : Terms) (by_token by_peer : List ℕ) (s : ℕ) (c : Connection Kept) : Type 0 where
   pub made : IsMade terms c.end
   pub set : IsSet c
-  pub some : 1 ≤ c.route.token
-  pub own : slice_get by_token (c.route.token - 1) ≡ Some s
+  pub own : socket_named c.route.token by_token ≡ Some s
   pub peer : IsPeerNamed by_peer s c.route.peer
 
 -- that of what may be no connection

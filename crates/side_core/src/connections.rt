@@ -10,7 +10,7 @@ ghost use Rattle.pipe_model.specs.Ends.{Half, comes_up, takes, completes};
 ghost use Rattle.pipe_model.specs.Calls.{Writes, Reads, calls};
 ghost use Rattle.conn_end.specs.Told.{Answers};
 ghost use Rattle.side_core.specs.Records.{Records, AllStand, IsSmall, no_records, conn_at, half_at, route_at, link_at, holder, aimer, settles, begins, aims, rises, leaves};
-ghost use Rattle.side_core.specs.Inside.{IsMade, made_with};
+ghost use Rattle.side_core.specs.Inside.{IsMade, made_with, socket_named as named_by};
 ghost use Rattle.side_core.specs.Posting.{IsWay, posts_at};
 ghost use Rattle.side_core.specs.Comings.{MayArriveAt, ArrivesAt, MayCompleteAt, CompletesAt, MayGo, IsGoingAt};
 
@@ -102,8 +102,7 @@ impl Connections {
     pub fn holder(&self, token: u32) -> Option<u32>
         ensures { result ≡ holder token self.now }
     {
-        let index = token.checked_sub(1)?;
-        let s = *self.by_token.get(index as usize)?;
+        let s = socket_named(token, &self.by_token)?;
         let record = self.records.get(s)?;
         if record.route.token == token {
             return Some(s);
@@ -115,8 +114,7 @@ impl Connections {
     pub fn aimer(&self, token: u32) -> Option<u32>
         ensures { result ≡ aimer token self.now }
     {
-        let index = token.checked_sub(1)?;
-        let s = *self.by_peer.get(index as usize)?;
+        let s = socket_named(token, &self.by_peer)?;
         let record = self.records.get(s)?;
         let offer = record.route.peer?;
         if offer.token == token {
@@ -311,6 +309,16 @@ impl Connections {
         let place = (address - element_start(&offer, self.size)) as u32;
         record.end.outgoing(Piece { place, len })
     }
+}
+
+// The socket that a list of sockets by tokens has for a token.
+fn socket_named(token: u32, sockets: &[u32]) -> Option<u32>
+    ensures { result ≡ named_by token sockets.now }
+{
+    if token == 0 {
+        return None;
+    }
+    sockets.get((token - 1) as usize).copied()
 }
 
 // No sockets, for so many tokens.
