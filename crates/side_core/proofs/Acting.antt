@@ -4,7 +4,7 @@ use Rattle.std.proofs.Common.{◌≡◌, ◌∙◌, ℕ, ◌<◌, ◌^◌, Bool,
 use Rattle.smc_num.specs.Names.{no_link}
 use Rattle.pipe_model.specs.Ends.{Half, settle}
 use Rattle.conn_end.specs.Batches.{may_post}
-use Rattle.conn_end.specs.Kept.{Kept, IsKept, StandsFor, SameTerms}
+use Rattle.conn_end.specs.Kept.{Kept, StandsFor, SameTerms}
 use Rattle.side_core.specs.Records.{Connection, Stands}
 use Rattle.side_core.specs.Inside.{IsAimed, IsSet, IsMade, IsFiled}
 use Rattle.pipe_model.specs.Pipe.{Terms}

@@ -11,7 +11,7 @@ use Rattle.pipe_model.specs.Words.{passes}
 use Rattle.conn_end.specs.Kept.{Kept}
 use Rattle.side_core.specs.Records.{Connection, is_aimed_at}
 use Rattle.side_core.specs.Slots.{Slots, slot_at}
-use Rattle.side_core.specs.Inside.{IsTable, IsFiled, IsFiledAt, IsPeerNamed, IsMade, socket_named}
+use Rattle.side_core.specs.Inside.{IsTable, IsFiled, IsFiledAt, IsPeerNamed, IsMade}
 use Rattle.side_core.proofs.Tokens.{named_before, named_elsewhere, named_there}
 
 -- one slot of a shelf is filed otherwise, and all others as they are

@@ -13,7 +13,7 @@ use Rattle.pipe_model.specs.Words.{passes}
 use Rattle.conn_end.specs.Kept.{Kept}
 use Rattle.side_core.specs.Records.{Connection, has_token, is_aimed_at}
 use Rattle.side_core.specs.Slots.{Slots, slot_at}
-use Rattle.side_core.specs.Inside.{socket_named, IsPeerNamed, IsFiled, IsFiledAt}
+use Rattle.side_core.specs.Inside.{socket_named, IsPeerNamed, IsFiledAt}
 
 -- where nothing passes
 pub none_passes : {X : Type 0} (p : X → Bool) (xs : List X) (d : X) → ((t : ℕ) → p (get_or xs t d) ≡ false) → position p xs ≡ None

@@ -77,13 +77,7 @@ impl Record {
     }
 
     /// Hands out told bytes, at most `len`, and posts what is due then.
-    pub fn read(
-        &mut self,
-        len: u32,
-        size: u32,
-        way: Way,
-        posts: &mut ArrayVec<Post, 6>,
-    ) -> EndReply
+    pub fn read(&mut self, len: u32, size: u32, way: Way, posts: &mut ArrayVec<Post, 6>) -> EndReply
         requires set { IsSet (conn_of self.old) }
         requires size { size ≡ self.old.end.size }
         requires number { self.old.end.course.number < 2 ^ 63 }

@@ -1,4 +1,4 @@
-use Rattle.std.proofs.Common.{◌≡◌, ◌≤◌, All, length, vec_capacity}
+use Rattle.std.proofs.Common.{◌≡◌, All, length, vec_capacity}
 use Rattle.side_core.specs.Inside.{IsMade, made_with}
 use Rattle.side_core.proofs.connections.idle_ends.Given as goal
 

@@ -1,10 +1,9 @@
-use Rattle.std.proofs.Common.{◌≡◌, ◌∙◌, ℕ, ◌+◌, ◌<◌, List, [], ◌∷◌, ◌++◌, length, Some, refl, sym, ap, subst, arith, vec_capacity}
+use Rattle.std.proofs.Common.{◌≡◌, ◌∙◌, ◌+◌, ◌<◌, List, [], ◌∷◌, ◌++◌, length, refl, sym, ap, subst, arith, vec_capacity}
 use Rattle.std.proofs.lemmas.List.{length-append}
 use Rattle.pipe_model.specs.Pipe.{Terms}
-use Rattle.pipe_model.specs.Ends.{Half, fresh}
+use Rattle.pipe_model.specs.Ends.{fresh}
 use Rattle.conn_end.specs.Kept.{Kept, StandsFor}
 use Rattle.side_core.specs.Records.{Connection, Records, AllStand, begins, new_route}
-use Rattle.side_core.specs.Slots.{Slots}
 use Rattle.side_core.specs.Inside.{IsTable, IsFiled, IsMade, made_with, records_of}
 use Rattle.side_core.proofs.Tokens.{named_last}
 use Rattle.side_core.proofs.Tables.{table_begun, last_made}
@@ -49,5 +48,5 @@ returns-clause-begins c = λ r live.
     let within : c.args.s < length x.records.slots = subst (λ (u : Records Kept). c.args.s < length u.by_socket) (sym c.self.view_is) c.requires.range in
     subst (λ (u : Records Kept). AllStand u r → AllStand w (begins c.args.s c.args.link c.args.element live r)) c.self.view_is
     (λ all. begun_stands v w r c.args.s c.args.link c.args.element live new all refl tokens (omega (arith, ap length split, length-append left (end ∷ []))) c.put.ensures.slots within
-        (ap (new_route c.args.link c.args.element) token)
-        (subst (λ n. StandsFor c.start.new.self (fresh n)) made.first c.start.ensures.end))
+    (ap (new_route c.args.link c.args.element) token)
+    (subst (λ n. StandsFor c.start.new.self (fresh n)) made.first c.start.ensures.end))

@@ -1,4 +1,4 @@
-use Rattle.std.proofs.Common.{ℕ, List, [], ◌∷◌, ◌++◌, sym, subst, vec_capacity}
+use Rattle.std.proofs.Common.{List, [], ◌∷◌, ◌++◌, sym, subst, vec_capacity}
 use Rattle.pipe_model.specs.Pipe.{Terms}
 use Rattle.conn_end.specs.Kept.{Kept}
 use Rattle.side_core.specs.Records.{Connection}

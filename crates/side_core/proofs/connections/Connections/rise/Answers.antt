@@ -1,15 +1,14 @@
-use Rattle.std.proofs.Common.{◌≡◌, ◌++◌, ℕ, List, Some, true, unwrap_or, option_map, Option, refl, ap, ◌∙◌, sym, subst, vec_capacity}
+use Rattle.std.proofs.Common.{◌≡◌, ◌++◌, List, Some, true, unwrap_or, option_map, Option, refl, ap, ◌∙◌, sym, subst, vec_capacity}
 use Rattle.smc_num.specs.Names.{no_link}
 use Rattle.pipe_model.specs.declared.post.Post.{Post}
 use Rattle.pipe_model.specs.Pipe.{Terms}
 use Rattle.pipe_model.specs.Ends.{Half, settle, comes_up}
-use Rattle.conn_end.specs.Kept.{Kept, StandsFor}
+use Rattle.conn_end.specs.Kept.{Kept}
 use Rattle.conn_end.specs.Batches.{may_post}
-use Rattle.side_core.specs.Records.{Connection, Records, AllStand, conn_at, link_at, changes, rises}
-use Rattle.side_core.specs.Slots.{Slots, conn_of, slot_at, with_slot}
-use Rattle.side_core.specs.Inside.{IsTable, IsFiled, IsFiledAt, made_with, records_of}
-use Rattle.side_core.specs.Posting.{IsWay, IsOnWay, posts_at, due_posts}
-use Rattle.side_core.proofs.Keeping.{IsAlike}
+use Rattle.side_core.specs.Records.{Connection, Records, AllStand, conn_at, link_at, rises}
+use Rattle.side_core.specs.Slots.{conn_of, slot_at, with_slot}
+use Rattle.side_core.specs.Inside.{IsFiled, IsFiledAt, made_with, records_of}
+use Rattle.side_core.specs.Posting.{IsWay, posts_at, due_posts}
 use Rattle.side_core.proofs.Acting.{filed_after}
 use Rattle.side_core.proofs.Tables.{table_changed}
 use Rattle.side_core.proofs.Standing.{IsFound, there_within, finds_plain, is_way, changed_stands, risen_stands, posted}
@@ -39,13 +38,13 @@ returns-clause-end c = λ r.
     let on : link_at c.args.s v ≡ k.route.link = ap (λ (o : Option (Connection Kept)). unwrap_or (option_map (λ q. q.route.link) o) no_link) is in
     subst (λ (u : Records Kept). AllStand u r → IsWay (comes_up (link_at c.args.s u)) c.args.way (conn_at c.args.s r) → AllStand w (rises c.args.s r)) c.self.view_is
     (λ all may.
-        let found : IsFound r c.args.s k = finds_plain v r c.args.s k all is in
-        let h : Half = found.conn.end in
-        let live : c.args.way.live ≡ may_post (comes_up (link_at c.args.s v) h) = is_way (comes_up (link_at c.args.s v)) c.args.way r c.args.s found.conn found.is may in
-        changed_stands v w r c.args.s k new (λ q. record q { route = record q.route { up = true }; end = settle r.terms.depth (comes_up q.route.link q.end) }) all (record { terms = refl; tokens = refl; spare = refl; by_socket = refl }) is found
-        (risen_stands k new found.conn r.terms.depth c.rise.ensures.same found.stands
-            (c.rise.ensures.end h found.stands.end (subst (λ l. c.args.way.live ≡ may_post (comes_up l h)) on live))
-            (filed.made.depth ∙ ap (λ (t : Terms). t.depth) all.terms)))
+    let found : IsFound r c.args.s k = finds_plain v r c.args.s k all is in
+    let h : Half = found.conn.end in
+    let live : c.args.way.live ≡ may_post (comes_up (link_at c.args.s v) h) = is_way (comes_up (link_at c.args.s v)) c.args.way r c.args.s found.conn found.is may in
+    changed_stands v w r c.args.s k new (λ q. record q { route = record q.route { up = true }; end = settle r.terms.depth (comes_up q.route.link q.end) }) all (record { terms = refl; tokens = refl; spare = refl; by_socket = refl }) is found
+    (risen_stands k new found.conn r.terms.depth c.rise.ensures.same found.stands
+    (c.rise.ensures.end h found.stands.end (subst (λ l. c.args.way.live ≡ may_post (comes_up l h)) on live))
+    (filed.made.depth ∙ ap (λ (t : Terms). t.depth) all.terms)))
 
 pub returns-clause-posts : goal.returns-clause-posts
 returns-clause-posts c = λ r.
@@ -62,8 +61,8 @@ returns-clause-posts c = λ r.
     let before : List Post = c.args.posts.now.items in
     subst (λ (u : Records Kept). AllStand u r → IsWay (comes_up (link_at c.args.s u)) c.args.way (conn_at c.args.s r) → after ≡ before ++ posts_at c.args.s (comes_up (link_at c.args.s u)) c.args.way r (conn_at c.args.s r)) c.self.view_is
     (λ all may.
-        let found : IsFound r c.args.s k = finds_plain v r c.args.s k all is in
-        let h : Half = found.conn.end in
-        let live : c.args.way.live ≡ may_post (comes_up (link_at c.args.s v) h) = is_way (comes_up (link_at c.args.s v)) c.args.way r c.args.s found.conn found.is may in
-        posted v r c.args.s k (comes_up (link_at c.args.s v)) c.args.way before after all filed.made found
-        (subst (λ l. c.args.way.live ≡ may_post (comes_up l h) → after ≡ before ++ due_posts k.end.size k.end.course.depth c.args.way.side c.args.way.key k.route.peer (comes_up l h)) (sym on) (c.rise.ensures.posts h found.stands.end) live))
+    let found : IsFound r c.args.s k = finds_plain v r c.args.s k all is in
+    let h : Half = found.conn.end in
+    let live : c.args.way.live ≡ may_post (comes_up (link_at c.args.s v) h) = is_way (comes_up (link_at c.args.s v)) c.args.way r c.args.s found.conn found.is may in
+    posted v r c.args.s k (comes_up (link_at c.args.s v)) c.args.way before after all filed.made found
+    (subst (λ l. c.args.way.live ≡ may_post (comes_up l h) → after ≡ before ++ due_posts k.end.size k.end.course.depth c.args.way.side c.args.way.key k.route.peer (comes_up l h)) (sym on) (c.rise.ensures.posts h found.stands.end) live))

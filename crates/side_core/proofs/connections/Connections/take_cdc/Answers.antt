@@ -1,14 +1,13 @@
-use Rattle.std.proofs.Common.{◌≡◌, ◌++◌, ℕ, List, Some, refl, sym, subst, vec_capacity}
+use Rattle.std.proofs.Common.{◌≡◌, ◌++◌, List, Some, refl, subst, vec_capacity}
 use Rattle.pipe_model.specs.declared.post.Post.{Post}
 use Rattle.side_core.specs.Comings.{Arrives, ArrivesAt}
 use Rattle.pipe_model.specs.Pipe.{Terms}
-use Rattle.pipe_model.specs.Ends.{Half, settle, takes}
-use Rattle.conn_end.specs.Kept.{Kept, StandsFor}
-use Rattle.conn_end.specs.Batches.{may_post}
+use Rattle.pipe_model.specs.Ends.{Half, takes}
+use Rattle.conn_end.specs.Kept.{Kept}
 use Rattle.side_core.specs.Records.{Connection, Records, AllStand, conn_at, settles}
-use Rattle.side_core.specs.Slots.{Slots, conn_of, slot_at, with_slot}
-use Rattle.side_core.specs.Inside.{IsTable, IsFiled, IsFiledAt, made_with, records_of}
-use Rattle.side_core.specs.Posting.{IsWay, IsOnWay, posts_at, due_posts}
+use Rattle.side_core.specs.Slots.{conn_of, slot_at, with_slot}
+use Rattle.side_core.specs.Inside.{IsFiled, IsFiledAt, made_with, records_of}
+use Rattle.side_core.specs.Posting.{IsWay, posts_at}
 use Rattle.side_core.proofs.Keeping.{takes_alike}
 use Rattle.side_core.proofs.Acting.{filed_after}
 use Rattle.side_core.proofs.Tables.{table_changed}
@@ -38,12 +37,12 @@ returns-clause-end c = λ r sent.
     let w : Records Kept = records_of terms (with_slot c.args.s (Some new) x.records) x.by_token.items x.idle.items in
     subst (λ (u : Records Kept). AllStand u r → ArrivesAt c.args.message.now c.args.plain.now sent (conn_at c.args.s u) (conn_at c.args.s r) → IsWay (takes (Some sent)) c.args.way (conn_at c.args.s r) → AllStand w (settles c.args.s (takes (Some sent)) r)) c.self.view_is
     (λ all comes may.
-        let found : IsFound r c.args.s k = finds_plain v r c.args.s k all is in
-        let h : Half = found.conn.end in
-        let here : Arrives k.end c.args.message.now c.args.plain.now h sent =
-            subst (λ o. ArrivesAt c.args.message.now c.args.plain.now sent (Some k) o) found.is (subst (λ o. ArrivesAt c.args.message.now c.args.plain.now sent o (conn_at c.args.s r)) is comes) in
-        settles_at v w r c.args.s k new (takes (Some sent)) all (record { terms = refl; tokens = refl; spare = refl; by_socket = refl }) is filed.made c.take_cdc.ensures.same found (takes_alike sent h)
-        (c.take_cdc.ensures.end h sent here (is_way (takes (Some sent)) c.args.way r c.args.s found.conn found.is may)))
+    let found : IsFound r c.args.s k = finds_plain v r c.args.s k all is in
+    let h : Half = found.conn.end in
+    let here : Arrives k.end c.args.message.now c.args.plain.now h sent =
+    subst (λ o. ArrivesAt c.args.message.now c.args.plain.now sent (Some k) o) found.is (subst (λ o. ArrivesAt c.args.message.now c.args.plain.now sent o (conn_at c.args.s r)) is comes) in
+    settles_at v w r c.args.s k new (takes (Some sent)) all (record { terms = refl; tokens = refl; spare = refl; by_socket = refl }) is filed.made c.take_cdc.ensures.same found (takes_alike sent h)
+    (c.take_cdc.ensures.end h sent here (is_way (takes (Some sent)) c.args.way r c.args.s found.conn found.is may)))
 
 pub returns-clause-posts : goal.returns-clause-posts
 returns-clause-posts c = λ r sent.
@@ -59,10 +58,10 @@ returns-clause-posts c = λ r sent.
     let before : List Post = c.args.posts.now.items in
     subst (λ (u : Records Kept). AllStand u r → ArrivesAt c.args.message.now c.args.plain.now sent (conn_at c.args.s u) (conn_at c.args.s r) → IsWay (takes (Some sent)) c.args.way (conn_at c.args.s r) → after ≡ before ++ posts_at c.args.s (takes (Some sent)) c.args.way r (conn_at c.args.s r)) c.self.view_is
     (λ all comes may.
-        let found : IsFound r c.args.s k = finds_plain v r c.args.s k all is in
-        let h : Half = found.conn.end in
-        let here : Arrives k.end c.args.message.now c.args.plain.now h sent =
-            subst (λ o. ArrivesAt c.args.message.now c.args.plain.now sent (Some k) o) found.is (subst (λ o. ArrivesAt c.args.message.now c.args.plain.now sent o (conn_at c.args.s r)) is comes) in
-        posted v r c.args.s k (takes (Some sent)) c.args.way before after all filed.made found
-        (c.take_cdc.ensures.posts h sent here
-            (on_way found.conn k (takes (Some sent)) c.args.way found.stands (takes_alike sent h) (is_way (takes (Some sent)) c.args.way r c.args.s found.conn found.is may))))
+    let found : IsFound r c.args.s k = finds_plain v r c.args.s k all is in
+    let h : Half = found.conn.end in
+    let here : Arrives k.end c.args.message.now c.args.plain.now h sent =
+    subst (λ o. ArrivesAt c.args.message.now c.args.plain.now sent (Some k) o) found.is (subst (λ o. ArrivesAt c.args.message.now c.args.plain.now sent o (conn_at c.args.s r)) is comes) in
+    posted v r c.args.s k (takes (Some sent)) c.args.way before after all filed.made found
+    (c.take_cdc.ensures.posts h sent here
+    (on_way found.conn k (takes (Some sent)) c.args.way found.stands (takes_alike sent h) (is_way (takes (Some sent)) c.args.way r c.args.s found.conn found.is may))))

@@ -1,4 +1,4 @@
-use Rattle.std.proofs.Common.{◌≡◌, ◌∙◌, ◌&&◌, not, ℕ, Option, ◌++◌, List, [], sym, ap, subst, Some, None}
+use Rattle.std.proofs.Common.{◌∙◌, ◌&&◌, not, ℕ, Option, ◌++◌, List, sym, ap, subst}
 use Rattle.std.proofs.lemmas.List.{append-nil}
 use Rattle.clc_wire.specs.declared.offer.Offer.{Offer}
 use Rattle.pipe_model.specs.declared.post.Post.{Post}
@@ -17,16 +17,16 @@ returns-in_default-clause-posts c = λ h stands on.
     let k = c.args.self.now.end in
     let w = c.args.way in
     sym (ap (λ (ps : List Post). c.args.posts.now.items ++ ps)
-        (nothing_due k.size w.side w.key c.args.self.now.route.peer k h c.requires.set.owes (sym c.in_default.is ∙ c.next_batch.ensures.batch h stands on.live))
-        ∙ append-nil c.args.posts.now.items)
+    (nothing_due k.size w.side w.key c.args.self.now.route.peer k h c.requires.set.owes (sym c.in_default.is ∙ c.next_batch.ensures.batch h stands on.live))
+    ∙ append-nil c.args.posts.now.items)
 
 pub returns-in_default-peer-clause-posts : goal.returns-in_default-peer-clause-posts
 returns-in_default-peer-clause-posts c = λ h stands on.
     let k = c.args.self.now.end in
     let w = c.args.way in
     sym (ap (λ (ps : List Post). c.args.posts.now.items ++ ps)
-        (no_peer k.size k.course.depth w.side w.key c.args.self.now.route.peer h c.in_default-peer.is)
-        ∙ append-nil c.args.posts.now.items)
+    (no_peer k.size k.course.depth w.side w.key c.args.self.now.route.peer h c.in_default-peer.is)
+    ∙ append-nil c.args.posts.now.items)
 
 pub returns-clause-posts : goal.returns-clause-posts
 returns-clause-posts c = λ h stands on.
