@@ -8,5 +8,7 @@ pub mod Keeping
 pub mod OneRmb
 pub mod Seats
 pub mod Shelving
+pub mod Standing
+pub mod Tables
 pub mod Tokens
 pub mod Verdicts
