@@ -2,6 +2,9 @@ pub mod Acts
 pub mod Allowed
 pub mod Counting
 pub mod Halves
+pub mod Loans
+pub mod News
 pub mod OneRmb
 pub mod Seats
+pub mod Steps
 pub mod Verdicts
