@@ -1,5 +1,6 @@
 pub mod Acts
 pub mod Allowed
+pub mod Confirms
 pub mod Counting
 pub mod Halves
 pub mod Loans
@@ -7,4 +8,5 @@ pub mod News
 pub mod OneRmb
 pub mod Seats
 pub mod Steps
+pub mod Takes
 pub mod Verdicts

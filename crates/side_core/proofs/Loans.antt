@@ -1,9 +1,9 @@
 -- An element that is lent or given back, among the others of its side.
 -- A reader learns here how many elements are free then, and that the elements of two connections are never at one place.
-use Rattle.std.proofs.Common.{◌≡◌, ◌≢◌, ◌∙◌, ℕ, zero, suc, ◌+◌, ◌<◌, ◌≤◌, ◌==◌, ◌&&◌, not, cond, if◌then◌else◌, Bool, true, false, List, [], ◌∷◌, ◌++◌, length, map, filter, Option, Some, None, All, refl, sym, ap, subst, arith, true≢false, unwrap_or}
+use Rattle.std.proofs.Common.{◌≡◌, ◌≢◌, ◌∙◌, ℕ, zero, suc, ◌+◌, ◌<◌, ◌≤◌, ◌==◌, ◌&&◌, not, cond, Bool, true, false, List, [], ◌∷◌, ◌++◌, length, map, filter, Option, Some, None, All, refl, sym, ap, subst, arith, true≢false, unwrap_or}
 use Rattle.std.specs.Prelude.{slice_index_or}
 use Rattle.std.specs.List.{range_with_len, AllByRecursion}
-use Rattle.std.proofs.lemmas.Bool.{eqb-true, and_left, and_right}
+use Rattle.std.proofs.lemmas.Bool.{eqb-true}
 use Rattle.std.proofs.lemmas.List.{get_or-map, get_or_at, length-append, length-map}
 use Rattle.std.proofs.lemmas.List.Elements.{filter-append}
 use Rattle.smc_num.specs.Places.{Place, same_place, all_places}
@@ -13,7 +13,7 @@ use Rattle.element_ledger.specs.Lendings.{Row, Rows, IsLedger, StandsOnce, HasLe
 use Rattle.element_ledger.proofs.Once.{are_apart, stands_once, has_lending}
 use Rattle.element_ledger.proofs.Changes.{free_one}
 use Rattle.side_core.proofs.Counting.{free_count}
-use Rattle.side_core.proofs.Verdicts.{by_if, not_true}
+use Rattle.side_core.proofs.Verdicts.{by_if}
 
 both_true : (a b : Bool) → (a && b) ≡ true → (a ≡ true) × (b ≡ true)
 both_true true b e = (refl, e)
@@ -29,7 +29,7 @@ same_is p q e =
 alone : (r q : Row) (rows : List Row) → StandsOnce r rows → StandsOnce q rows → r.place ≡ q.place → r ≡ q
 alone r q rows first second same =
     let whole : second.before ++ r ∷ second.after ≡ second.before ++ q ∷ second.after =
-      sym (second.change (λ x. r)) ∙ ap (λ p. map (changes_at p (λ x. r)) rows) (sym same) ∙ first.change (λ x. r) ∙ sym first.whole ∙ second.whole in
+    sym (second.change (λ x. r)) ∙ ap (λ p. map (changes_at p (λ x. r)) rows) (sym same) ∙ first.change (λ x. r) ∙ sym first.whole ∙ second.whole in
     sym (get_or_at second.before r second.after r (length second.before) refl)
     ∙ ap (λ xs. slice_index_or xs (length second.before) r) whole
     ∙ get_or_at second.before q second.after r (length second.before) refl
@@ -51,10 +51,7 @@ apart v e f l k ledger has other differ = by_test (same_place (place_of e) (plac
         let lent : Some l ≡ Some k = sym here.lending ∙ ap (λ (r : Row). r.lending) one ∙ there.lending in
         absurd (differ (ap (λ (o : Option Lending). (unwrap_or o l).conn) lent))
 
--- the elements that are free, one by one
-free_or_not : Row → ℕ
-free_or_not r = cond (not (is_lent r)) 1 0
-
+-- how many are free before and after one, and itself
 count_at : (before after : List Row) (r : Row) → free_count (before ++ r ∷ after) ≡ free_count before + (cond (not (is_lent r)) 1 0 + free_count after)
 count_at before after r =
     ap length (filter-append (λ (x : Row). not (is_lent x)) before (r ∷ after))
@@ -74,19 +71,12 @@ count_changed r f rows b c once old new =
 
 -- the first free element is free
 first_passes : (rows : List Row) (r : Row) → first_free rows ≡ Some r → not (is_lent r) ≡ true
-first_passes rows r has = free_one (λ x. not (is_lent x) ≡ true → not (is_lent x) ≡ true) rows r (all rows) has (found rows r has)
+first_passes [] r e = absurd (let n : None ≡ Some r = e in cc)
+first_passes (q ∷ rows) r e = by_test (not (is_lent q)) refl e (first_passes rows r)
   where
-    all : (xs : List Row) → AllByRecursion (λ x. not (is_lent x) ≡ true → not (is_lent x) ≡ true) xs
-    all [] = tt
-    all (x ∷ xs) = (λ e. e, all xs)
-
-    found : (xs : List Row) (x : Row) → first_free xs ≡ Some x → not (is_lent x) ≡ true
-    found [] x e = absurd (let n : None ≡ Some x = e in cc)
-    found (q ∷ xs) x e = by_test (not (is_lent q)) refl e (found xs x)
-      where
-        by_test : (b : Bool) → not (is_lent q) ≡ b → cond b (Some q) (first_free xs) ≡ Some x → (first_free xs ≡ Some x → not (is_lent x) ≡ true) → not (is_lent x) ≡ true
-        by_test true at is rest = let same : q ≡ x = cc in ap (λ y. not (is_lent y)) (sym same) ∙ at
-        by_test false at is rest = rest is
+    by_test : (b : Bool) → not (is_lent q) ≡ b → cond b (Some q) (first_free rows) ≡ Some r → (first_free rows ≡ Some r → not (is_lent r) ≡ true) → not (is_lent r) ≡ true
+    by_test true at is rest = let same : q ≡ r = cc in ap (λ y. not (is_lent y)) (sym same) ∙ at
+    by_test false at is rest = rest is
 
 -- one less is free where the first free one is lent
 pub one_less : (v : Rows) (r : Row) (s : ℕ) → IsLedger v → first_free v.rows ≡ Some r → free_count (map (changes_at r.place (lends s)) v.rows) + 1 ≡ free_count v.rows

@@ -1,6 +1,6 @@
 -- The manager of a side that nothing concerned.
 -- A reader learns here that all fits in it.
-use Rattle.std.proofs.Common.{◌≡◌, ◌∙◌, ℕ, zero, suc, ◌+◌, ◌<◌, ◌≤◌, ◌==◌, not, Bool, true, false, List, [], ◌∷◌, ◌++◌, length, map, filter, replicate, Option, None, option_map, All, refl, sym, ap, subst, arith, true≢false}
+use Rattle.std.proofs.Common.{◌≡◌, ◌∙◌, ℕ, zero, suc, ◌<◌, ◌≤◌, List, [], ◌∷◌, length, map, replicate, None, option_map, refl, sym, ap, subst, arith, true≢false}
 use Rattle.std.specs.Prelude.{slice_index_or}
 use Rattle.std.proofs.lemmas.List.{length-map, length-replicate, length-append}
 use Rattle.std.proofs.lemmas.List.FromFn.{length-map-range_with_len}
@@ -8,17 +8,16 @@ use Rattle.smc_num.specs.declared.Side.{Side}
 use Rattle.smc_num.specs.Names.{up_to}
 use Rattle.smc_num.specs.Places.{Place, all_places, places_in}
 use Rattle.rmb_region.specs.Regions.{fresh as fresh_buffer}
-use Rattle.element_ledger.specs.Lendings.{Row, fresh, is_lent}
+use Rattle.element_ledger.specs.Lendings.{Row, fresh}
 use Rattle.element_ledger.proofs.Changes.{fresh_places}
 use Rattle.pipe_model.specs.declared.setup.Setup.{Setup}
 use Rattle.pipe_model.specs.Words.{element_size, rmbs_of, elements_of}
 use Rattle.pipe_model.specs.Ends.{Half}
 use Rattle.clc_handshake.specs.Stages.{Hand}
-use Rattle.side_core.specs.declared.route.Route.{Route}
 use Rattle.side_core.specs.Records.{Connection, route_at}
 use Rattle.side_core.specs.Setups.{IsSet}
 use Rattle.side_core.specs.Desk.{new_desk}
-use Rattle.side_core.specs.Manager.{Manager, no_hand, new_manager, state_at}
+use Rattle.side_core.specs.Manager.{no_hand, new_manager}
 use Rattle.side_core.specs.Fit.{Suits, HasElement, IsOneBuffer, IsFit}
 use Rattle.side_core.proofs.Counting.{free_count}
 
