@@ -1,21 +1,19 @@
 -- What a batch posts.
 -- A reader learns here why its two pieces are the writes of the private pipe, and why nothing is posted that is not due.
-use Rattle.std.proofs.Common.{◌≡◌, ◌∙◌, ℕ, ◌+◌, ◌-◌, ◌%◌, ◌<◌, ◌≤◌, ◌==◌, nat_le, min, Bool, true, false, ◌&&◌, cond, List, [], ◌∷◌, ◌++◌, length, Option, Some, None, is_some, refl, sym, ap, ap₂, subst, arith, true≢false, inl, inr, unwrap_or}
+use Rattle.std.proofs.Common.{◌≡◌, ◌∙◌, ℕ, ◌+◌, ◌-◌, ◌%◌, ◌<◌, ◌≤◌, nat_le, min, Bool, true, false, ◌&&◌, cond, List, [], ◌∷◌, ◌++◌, length, Option, Some, None, is_some, refl, sym, ap, ap₂, arith, true≢false, inl, inr, unwrap_or}
 use Rattle.std.proofs.lemmas.Bool.{cases_lt, cases_eq, eq-eqb, ne_eqb, le-leb, lt-leb}
 use Rattle.std.proofs.Math.Nat.{mod-lt}
 use Rattle.smc_num.specs.declared.Side.{Side}
 use Rattle.smc_num.specs.declared.LinkId.{LinkId}
 use Rattle.smc_num.specs.Names.{has_link}
 use Rattle.smc_num.specs.Places.{Place, element_start, address_of}
-use Rattle.cdc_wire.specs.declared.CdcMessage.{CdcMessage}
 use Rattle.cdc_ring.specs.declared.Piece.{Piece}
 use Rattle.clc_wire.specs.declared.offer.Offer.{Offer}
 use Rattle.pipe_model.specs.declared.post.Post.{Post}
 use Rattle.pipe_model.specs.declared.post.Post.TheVariants.{Write, Cdc}
-use Rattle.pipe_model.specs.Snapshot.{spelled, tells_same}
-use Rattle.pipe_model.specs.Closing.{is_group_gone}
+use Rattle.pipe_model.specs.Snapshot.{spelled}
 use Rattle.pipe_model.specs.Ends.{Half, present, batch, is_due}
-use Rattle.pipe_model.specs.Posts.{writes, offered_place, cdc_posts}
+use Rattle.pipe_model.specs.Posts.{writes, offered_place}
 use Rattle.conn_end.specs.declared.answers.Batch.{Batch}
 use Rattle.conn_end.specs.Kept.{Kept, StandsFor}
 use Rattle.conn_end.specs.Batches.{front_of, back_of, may_post, owed_alone, message_of, due_with, batch_of}

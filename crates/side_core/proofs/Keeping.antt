@@ -2,10 +2,9 @@
 -- A reader learns here that none of them changes the number last used, the end's link, or whether it is established.
 use Rattle.std.proofs.Common.{◌≡◌, ◌∙◌, ℕ, Bool, true, false, cond, Some, refl, sym, ap}
 use Rattle.pipe_model.specs.declared.sent.Sent.{Sent}
-use Rattle.pipe_model.specs.Closing.{cause_of, is_closing}
 use Rattle.pipe_model.specs.Snapshot.{shows_gap}
-use Rattle.pipe_model.specs.Ends.{Half, is_over, is_due, posts_batch, settle, takes, validates, takes_snapshot, completes}
-use Rattle.pipe_model.specs.Calls.{Writes, Reads, calls, is_ended}
+use Rattle.pipe_model.specs.Ends.{Half, is_due, posts_batch, settle, takes, validates, takes_snapshot, completes}
+use Rattle.pipe_model.specs.Calls.{Writes, Reads, calls}
 
 -- that an end is on the same link as another one, established likewise, and has used the same number last
 pub record IsAlike (h g : Half) : Type 0 where

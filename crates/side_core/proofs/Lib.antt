@@ -4,5 +4,7 @@ pub mod Dues
 pub mod Keeping
 pub mod OneRmb
 pub mod Shelving
+pub mod Standing
+pub mod Tables
 pub mod Tokens
 pub mod Workings

@@ -2,7 +2,7 @@
 -- asked of the bytes that it keeps.
 -- A reader learns here what the connection may rely on then.
 use Rattle.std.specs.Prelude.{◌≡◌, ◌≤◌, ℕ, ◌+◌, false, length, Option, Some, None}
-use Rattle.smc_num.specs.Places.{Place, address_of}
+use Rattle.smc_num.specs.Places.{address_of}
 use Rattle.cdc_wire.specs.declared.CdcMessage.{CdcMessage}
 use Rattle.clc_wire.specs.declared.offer.Offer.{Offer}
 use Rattle.pipe_model.specs.declared.snapshot.Snapshot.{Snapshot}

@@ -12,7 +12,7 @@ use Rattle.pipe_model.specs.declared.post.Post.TheVariants.{Write, Cdc}
 use Rattle.pipe_model.specs.Ends.{Half, is_due, batch}
 use Rattle.pipe_model.specs.Posts.{cdc_posts, offered_place}
 use Rattle.conn_end.specs.declared.answers.Batch.{Batch}
-use Rattle.conn_end.specs.Kept.{Kept, StandsFor, SameTerms}
+use Rattle.conn_end.specs.Kept.{Kept, SameTerms}
 use Rattle.conn_end.specs.Batches.{may_post}
 use Rattle.side_core.specs.declared.route.Way.{Way}
 use Rattle.side_core.specs.Records.{Connection, Records}

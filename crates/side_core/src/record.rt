@@ -40,6 +40,7 @@ impl Record {
         requires number { self.old.end.course.number < 2 ^ 63 }
         requires room { length posts.old.items ≤ 3 }
         ensures same { SameCourse (record (conn_of self.old) { route = record self.old.route { up = true } }) (conn_of self.new) }
+        ensures set { IsSet (conn_of self.new) }
         ensures end { (h : Half) → StandsFor self.old.end h → way.live ≡ may_post (comes_up self.old.route.link h)
             → StandsFor self.new.end (settle self.old.end.course.depth (comes_up self.old.route.link h)) }
         ensures posts { (h : Half) → StandsFor self.old.end h → way.live ≡ may_post (comes_up self.old.route.link h)
@@ -63,6 +64,7 @@ impl Record {
         requires number { self.old.end.course.number < 2 ^ 63 }
         requires room { length posts.old.items ≤ 3 }
         ensures same { SameCourse (conn_of self.old) (conn_of self.new) }
+        ensures set { IsSet (conn_of self.new) }
         ensures end { (h : Half) → StandsFor self.old.end h → way.live ≡ may_post (calls self.old.end.size (Writes bytes.now) h)
             → StandsFor self.new.end (settle self.old.end.course.depth (calls self.old.end.size (Writes bytes.now) h)) }
         ensures posts { (h : Half) → StandsFor self.old.end h → IsOnWay self.old.route.link way (calls self.old.end.size (Writes bytes.now) h)
@@ -75,18 +77,13 @@ impl Record {
     }
 
     /// Hands out told bytes, at most `len`, and posts what is due then.
-    pub fn read(
-        &mut self,
-        len: u32,
-        size: u32,
-        way: Way,
-        posts: &mut ArrayVec<Post, 6>,
-    ) -> EndReply
+    pub fn read(&mut self, len: u32, size: u32, way: Way, posts: &mut ArrayVec<Post, 6>) -> EndReply
         requires set { IsSet (conn_of self.old) }
         requires size { size ≡ self.old.end.size }
         requires number { self.old.end.course.number < 2 ^ 63 }
         requires room { length posts.old.items ≤ 3 }
         ensures same { SameCourse (conn_of self.old) (conn_of self.new) }
+        ensures set { IsSet (conn_of self.new) }
         ensures end { (h : Half) → StandsFor self.old.end h → way.live ≡ may_post (calls self.old.end.size (Reads len) h)
             → StandsFor self.new.end (settle self.old.end.course.depth (calls self.old.end.size (Reads len) h)) }
         ensures posts { (h : Half) → StandsFor self.old.end h → IsOnWay self.old.route.link way (calls self.old.end.size (Reads len) h)
@@ -113,6 +110,7 @@ impl Record {
         requires number { self.old.end.course.number < 2 ^ 63 }
         requires room { length posts.old.items ≤ 3 }
         ensures same { SameCourse (conn_of self.old) (conn_of self.new) }
+        ensures set { IsSet (conn_of self.new) }
         ensures end { (h : Half) (sent : Sent) → Arrives self.old.end message.now plain.now h sent → way.live ≡ may_post (takes (Some sent) h)
             → StandsFor self.new.end (settle self.old.end.course.depth (takes (Some sent) h)) }
         ensures posts { (h : Half) (sent : Sent) → Arrives self.old.end message.now plain.now h sent → IsOnWay self.old.route.link way (takes (Some sent) h)
@@ -137,6 +135,7 @@ impl Record {
         requires number { self.old.end.course.number < 2 ^ 63 }
         requires room { length posts.old.items ≤ 3 }
         ensures same { SameCourse (conn_of self.old) (conn_of self.new) }
+        ensures set { IsSet (conn_of self.new) }
         ensures end { (h : Half) (sent : Sent) → Completes self.old.end message.now plain.now h sent → way.live ≡ may_post (completes (Some sent) h)
             → StandsFor self.new.end (settle self.old.end.course.depth (completes (Some sent) h)) }
         ensures posts { (h : Half) (sent : Sent) → Completes self.old.end message.now plain.now h sent → IsOnWay self.old.route.link way (completes (Some sent) h)
@@ -153,6 +152,7 @@ impl Record {
         requires number { self.old.end.course.number < 2 ^ 63 }
         requires room { length posts.old.items ≤ 3 }
         ensures same { SameCourse (conn_of self.old) (conn_of self.new) }
+        ensures set { IsSet (conn_of self.new) }
         ensures end { (h : Half) → StandsFor self.old.end h → way.live ≡ may_post h → StandsFor self.new.end (settle self.old.end.course.depth h) }
         ensures posts { (h : Half) → StandsFor self.old.end h → IsOnWay self.old.route.link way h
             → posts.new.items ≡ posts.old.items ++ due_posts self.old.end.size self.old.end.course.depth way.side way.key self.old.route.peer h }
