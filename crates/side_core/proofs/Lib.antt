@@ -1,6 +1,7 @@
 pub mod Acting
 pub mod Acts
 pub mod Allowed
+pub mod Beginning
 pub mod Confirms
 pub mod Counting
 pub mod Dues
@@ -17,3 +18,4 @@ pub mod Tables
 pub mod Takes
 pub mod Tokens
 pub mod Verdicts
+pub mod Workings

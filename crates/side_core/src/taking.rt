@@ -123,8 +123,7 @@ fn accept_first(
         → posts.new.items ≡ posts.old.items ++ Clc m.desk.side s (Some (first_link paths.now m.desk)) (Accept (offer_for true (first_link paths.now m.desk) m)) ∷ [] }
 {
     let link = desk.first_link(paths);
-    desk.begin_group(s, link);
-    let offer = desk.offer(true, link, connections.tokens() + 1);
+    let offer = desk.begin(s, link, connections.tokens() + 1);
     start(desk, connections, s, link);
     push_clc(posts, desk, s, Some(link), ClcMessage::Accept(offer));
 }
@@ -172,10 +171,9 @@ fn confirm_first(
     ensures posts { (m : Manager Half) → Works desk.old connections.old m
         → posts.new.items ≡ posts.old.items ++ Clc m.desk.side s (Some link) (Confirm (offer_for true link m)) ∷ [] }
 {
-    desk.begin_group(s, link);
+    let own = desk.begin(s, link, connections.tokens() + 1);
     desk.make_link(link);
     desk.learn(link, offer);
-    let own = desk.offer(true, link, connections.tokens() + 1);
     start(desk, connections, s, link);
     connections.aim(s, offer);
     push_clc(posts, desk, s, Some(link), ClcMessage::Confirm(own));
