@@ -1,17 +1,5 @@
 -- Tokens, and the sockets that they name.
 -- A reader learns here why the one record that a token's socket has answers for all.
-<<<<<<< HEAD
-<<<<<<< HEAD
-use Rattle.std.proofs.Common.{◌≡◌, ◌≢◌, ◌∙◌, ℕ, zero, suc, ◌+◌, ◌-◌, ◌<◌, ◌≤◌, ◌==◌, Bool, true, false, cond, List, [], ◌∷◌, ◌++◌, length, get_or, set, slice_get, Option, Some, None, is_some, unwrap_or, refl, sym, ap, subst, arith, true≢false}
-use Rattle.std.specs.List.{position}
-use Rattle.std.proofs.lemmas.Bool.{eqb-true, eq-eqb, ne_eqb, cases_eq}
-use Rattle.std.proofs.lemmas.List.{get_or-set_same, get_or-set_other, length-set}
-use Rattle.std.proofs.lemmas.List.Quantifiers.{position-Some}
-use Rattle.std.proofs.lemmas.Option.{slice_get_within, slice_get-get_or, get_or_from_slice_get}
-use Rattle.side_core.specs.Inside.{socket_named}
-=======
-=======
->>>>>>> 534828a2dbc28b117ec90b79303f2a2c4eef8721
 use Rattle.std.proofs.Common.{◌≡◌, ◌≢◌, ◌∙◌, ℕ, zero, suc, ◌+◌, ◌-◌, ◌<◌, ◌≤◌, ◌==◌, Bool, true, false, cond, List, [], ◌∷◌, ◌++◌, length, set, slice_get, Option, Some, None, is_some, unwrap_or, refl, sym, ap, subst, arith, true≢false, inl, inr, get_or, nat_lt}
 use Rattle.std.specs.List.{position, position_or_len}
 use Rattle.std.proofs.lemmas.Bool.{eqb-true, eq-eqb, ne_eqb, cases_eq, cases_lt, lt-ltb}
@@ -26,10 +14,6 @@ use Rattle.conn_end.specs.Kept.{Kept}
 use Rattle.side_core.specs.Records.{Connection, has_token, is_aimed_at}
 use Rattle.side_core.specs.Slots.{Slots, slot_at}
 use Rattle.side_core.specs.Inside.{socket_named, IsPeerNamed, IsFiledAt}
-<<<<<<< HEAD
->>>>>>> 8c6af2632222c62571e09b599562f78a4a22ad1d
-=======
->>>>>>> 534828a2dbc28b117ec90b79303f2a2c4eef8721
 
 -- where nothing passes
 pub none_passes : {X : Type 0} (p : X → Bool) (xs : List X) (d : X) → ((t : ℕ) → p (get_or xs t d) ≡ false) → position p xs ≡ None
@@ -39,18 +23,6 @@ none_passes p xs d none = by_place (position p xs) refl
     by_place None e = e
     by_place (Some i) e = absurd (true≢false (sym (position-Some p xs i d e).1 ∙ none i))
 
-<<<<<<< HEAD
-<<<<<<< HEAD
--- where one passes alone
-pub one_passes : {X : Type 0} (p : X → Bool) (xs : List X) (d : X) (s : ℕ) → s < length xs → p (get_or xs s d) ≡ true → ((t : ℕ) → p (get_or xs t d) ≡ true → t ≡ s) → position p xs ≡ Some s
-one_passes p xs d s within here alone = by_place (position p xs) refl
-  where
-    by_place : (o : Option ℕ) → position p xs ≡ o → position p xs ≡ Some s
-    by_place (Some i) e = e ∙ ap Some (alone i (position-Some p xs i d e).1)
-    by_place None e = ?
-=======
-=======
->>>>>>> 534828a2dbc28b117ec90b79303f2a2c4eef8721
 -- where nothing was found, nothing passes
 pub none_found : {X : Type 0} (p : X → Bool) (xs : List X) (d : X) (t : ℕ) → p d ≡ false → position p xs ≡ None → p (get_or xs t d) ≡ false
 none_found p xs d t fails_there none = by_test (p (get_or xs t d)) refl
@@ -181,7 +153,3 @@ named_elsewhere token other s y xs some differs named = by_test (other == 0) ref
           | inl zero_is ↦ absurd (true≢false (sym (eq-eqb other 0 zero_is) ∙ nonzero))
           | inr more ↦ omega (arith, more, same, some)
         ]
-<<<<<<< HEAD
->>>>>>> 8c6af2632222c62571e09b599562f78a4a22ad1d
-=======
->>>>>>> 534828a2dbc28b117ec90b79303f2a2c4eef8721

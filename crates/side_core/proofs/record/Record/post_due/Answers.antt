@@ -1,12 +1,4 @@
-<<<<<<< HEAD
-<<<<<<< HEAD
-use Rattle.std.proofs.Common.{◌∙◌, ℕ, Option, ◌++◌, List, sym, ap, subst}
-=======
 use Rattle.std.proofs.Common.{◌∙◌, ◌&&◌, not, ℕ, Option, ◌++◌, List, sym, ap, subst}
->>>>>>> 8c6af2632222c62571e09b599562f78a4a22ad1d
-=======
-use Rattle.std.proofs.Common.{◌∙◌, ◌&&◌, not, ℕ, Option, ◌++◌, List, sym, ap, subst}
->>>>>>> 534828a2dbc28b117ec90b79303f2a2c4eef8721
 use Rattle.std.proofs.lemmas.List.{append-nil}
 use Rattle.clc_wire.specs.declared.offer.Offer.{Offer}
 use Rattle.pipe_model.specs.declared.post.Post.{Post}
