@@ -4,10 +4,12 @@ pub mod Allowed
 pub mod Beginning
 pub mod Confirms
 pub mod Counting
+pub mod Doings
 pub mod Dues
 pub mod Halves
 pub mod Keeping
 pub mod Loans
+pub mod Managing
 pub mod News
 pub mod OneRmb
 pub mod Seats
