@@ -1,12 +1,14 @@
 pub mod Acting
 pub mod Acts
 pub mod Allowed
+pub mod Arriving
 pub mod Beginning
 pub mod Confirms
 pub mod Counting
 pub mod Doings
 pub mod Dues
 pub mod Halves
+pub mod Hands
 pub mod Keeping
 pub mod Loans
 pub mod Managing
