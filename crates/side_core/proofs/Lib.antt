@@ -3,13 +3,17 @@ pub mod Acts
 pub mod Allowed
 pub mod Arriving
 pub mod Beginning
+pub mod Confirming
 pub mod Confirms
 pub mod Counting
 pub mod Doings
 pub mod Dues
 pub mod Halves
+pub mod Handing
 pub mod Hands
+pub mod Judging
 pub mod Keeping
+pub mod Linking
 pub mod Loans
 pub mod Managing
 pub mod News
