@@ -7,7 +7,7 @@ use Rattle.clc_wire.specs.declared.message.ClcMessage.{ClcMessage}
 use Rattle.clc_wire.specs.declared.message.ClcMessage.TheVariants.{Accept, Confirm}
 use Rattle.clc_handshake.specs.Stages.{Hand, after_step}
 use Rattle.pipe_model.specs.declared.verdict.ClcStep.{ClcStep}
-use Rattle.pipe_model.specs.declared.verdict.ClcStep.TheVariants.{SendAccept, SendConfirm, Decline, Fell, Ready, Lost, Wrong}
+use Rattle.pipe_model.specs.declared.verdict.ClcStep.TheVariants.{SendAccept, SendConfirm, AskKey, Decline, Fell, Ready, Lost, Wrong}
 use Rattle.pipe_model.specs.Ends.{Half}
 use Rattle.pipe_model.specs.Handshake.{verdict}
 use Rattle.conn_end.specs.Kept.{Kept}
@@ -16,6 +16,12 @@ use Rattle.side_core.specs.Desk.{Desk, lacks_of}
 use Rattle.side_core.specs.Manager.{Manager, Works, StandsFor, no_hand, hand_at, state_at, with_hand}
 use Rattle.side_core.specs.Taking.{verdict_at, by_verdict, quits_from, takes_message}
 use Rattle.side_core.proofs.Verdicts.{by_if}
+use Rattle.side_core.specs.Taking.{MayTake}
+use Rattle.side_core.specs.Acting.{IsSoundAt}
+use Rattle.side_core.specs.Fit.{Allows, IsManager}
+use Rattle.side_core.proofs.Allowed.{allowed, asks_no_key}
+use Rattle.side_core.proofs.Takes.{takes_fit}
+use Rattle.side_core.proofs.Managing.{take_plain}
 use Rattle.side_core.proofs.Hands.{works_hand}
 
 -- that a manager has the handshakes and the buffers of another one
@@ -66,3 +72,22 @@ taken_stands s message link paths v w m step stands is works hands regions =
           ∙ ap (λ (hs : List Hand). slice_set hs s (stepped s message step m)) (sym beside.hands);
       regions = regions ∙ stands.regions ∙ sym beside.regions;
     }
+
+-- the step may be carried out
+pub judged : (s : ℕ) (message : ClcMessage) (link : LinkId) (paths : List Bool) (v : Manager Kept) (step : ClcStep) → IsManager v → MayTake s message link paths v → step ≡ verdict_at s message paths v → IsSoundAt v.records.terms.size (conn_at s v.records) → Allows s step message link paths v.desk v.records
+judged s message link paths v step i may is sound =
+    subst (λ (d : Desk). Allows s step message link paths d v.records) (sym i.stands.works.desk)
+    (allowed s message link paths i.plain v.records step i.fit (take_plain s message link paths v i.plain i.stands may) (is ∙ same_verdict s message paths v i.plain i.stands) i.stands.works.records sound)
+
+-- it never asks for a key
+pub never_asks : (s : ℕ) (message : ClcMessage) (link : LinkId) (paths : List Bool) (v : Manager Kept) → IsManager v → MayTake s message link paths v → verdict_at s message paths v ≡ AskKey → ⊥
+never_asks s message link paths v i may asks = asks_no_key s message link paths i.plain i.fit (take_plain s message link paths v i.plain i.stands may) (sym asks ∙ same_verdict s message paths v i.plain i.stands)
+
+-- and all fits then
+pub taken_kept : (s : ℕ) (message : ClcMessage) (link : LinkId) (paths : List Bool) (v w : Manager Kept) (step : ClcStep) → (i : IsManager v) → MayTake s message link paths v → step ≡ verdict_at s message paths v
+    → ((m : Manager Half) → Works v.desk v.records m → Works w.desk w.records (by_verdict s message link paths m step)) → w.hands ≡ slice_set v.hands s (stepped s message step v) → w.regions ≡ v.regions → IsManager w
+taken_kept s message link paths v w step i may is works hands regions = record {
+  plain = takes_message s message link paths i.plain;
+  stands = taken_stands s message link paths v w i.plain step i.stands (is ∙ same_verdict s message paths v i.plain i.stands) (works i.plain i.stands.works) hands regions;
+  fit = takes_fit s message link paths i.plain i.fit (take_plain s message link paths v i.plain i.stands may);
+}

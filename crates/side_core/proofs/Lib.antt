@@ -16,6 +16,7 @@ pub mod Keeping
 pub mod Linking
 pub mod Loans
 pub mod Managing
+pub mod Newly
 pub mod News
 pub mod OneRmb
 pub mod Seats

@@ -22,7 +22,7 @@ use Rattle.side_core.specs.Fit.{Suits, HasElement, IsOneBuffer, IsFit}
 use Rattle.side_core.proofs.Counting.{free_count}
 
 -- the same everywhere
-all_same : {X : Type 0} (n k : ℕ) (x : X) → slice_index_or (replicate n x) k x ≡ x
+pub all_same : {X : Type 0} (n k : ℕ) (x : X) → slice_index_or (replicate n x) k x ≡ x
 all_same zero k x = refl
 all_same (suc n) zero x = refl
 all_same (suc n) (suc k) x = all_same n k x

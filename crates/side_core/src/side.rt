@@ -422,12 +422,7 @@ fn one_region(alloc: Global, elements: u8, size: u32) -> Result<Vec<Region>, NoM
 }
 
 /// What the handshake of a socket does with a message, by these facts.
-fn judge(
-    hands: &mut Vec<Option<Handshake>>,
-    s: u32,
-    message: &ClcMessage,
-    lacks: &Lacks,
-) -> ClcStep
+fn judge(hands: &mut Vec<Option<Handshake>>, s: u32, message: &ClcMessage, lacks: &Lacks) -> ClcStep
     requires { expects (hand_in s hands.old.items).state ≡ true }
     ensures step { result ≡ verdict (hand_in s hands.old.items).raw (hand_in s hands.old.items).state message.now lacks.now }
     ensures hands { map hand_of hands.new.items ≡ slice_set (map hand_of hands.old.items) s

@@ -84,7 +84,13 @@ fn named_group(message: &ClcMessage) -> u32
 }
 
 /// A post of an offer, in an Accept or a Confirm.
-fn push_clc(posts: &mut ArrayVec<Post, 6>, desk: &Desk, s: u32, link: Option<LinkId>, message: ClcMessage)
+fn push_clc(
+    posts: &mut ArrayVec<Post, 6>,
+    desk: &Desk,
+    s: u32,
+    link: Option<LinkId>,
+    message: ClcMessage,
+)
     requires { length posts.old.items ≤ 5 }
     ensures { posts.new.items ≡ posts.old.items ++ Clc desk.now.side s link message ∷ [] }
 {
@@ -240,7 +246,13 @@ fn ask_link(desk: &Desk, link: LinkId, posts: &mut ArrayVec<Post, 6>)
     posts.push(Post::Llc {
         from: desk.side(),
         link,
-        message: messages::confirm_link(desk.setup(), desk.side(), false, link, desk.pair(link.slot)),
+        message: messages::confirm_link(
+            desk.setup(),
+            desk.side(),
+            false,
+            link,
+            desk.pair(link.slot),
+        ),
     });
 }
 
@@ -297,7 +309,13 @@ pub fn carry_out(
         → posts.new.items ≡ posts.old.items ++ (verdict_posts s message.now link paths.now m step ++ verdict_risen s message.now link m step) }
 {
     match (step, message) {
-        (ClcStep::SendAccept { first: true }, _) => accept_first(desk, connections, s, paths, posts),
+        (ClcStep::SendAccept { first: true }, _) => accept_first(
+            desk,
+            connections,
+            s,
+            paths,
+            posts,
+        ),
         (ClcStep::SendAccept { first: false }, _) => accept_later(desk, connections, s, posts),
         (ClcStep::SendConfirm { first: true }, ClcMessage::Accept(offer)) => {
             confirm_first(desk, connections, s, link, offer, posts);
