@@ -1,8 +1,7 @@
-use Rattle.std.proofs.Common.{◌≡◌, ◌++◌, ◌∙◌, ℕ, refl, sym, subst, ap, map, List, Some, Option}
+use Rattle.std.proofs.Common.{◌≡◌, ◌++◌, ◌∙◌, ℕ, sym, subst, map, List, Some}
 use Rattle.conn_end.specs.Kept.{Kept}
 use Rattle.pipe_model.specs.declared.post.Post.{Post}
-use Rattle.pipe_model.specs.declared.sent.Sent.{Sent}
-use Rattle.pipe_model.specs.Ends.{Half, completes}
+use Rattle.pipe_model.specs.Ends.{completes}
 use Rattle.side_core.specs.Records.{conn_at, aimer}
 use Rattle.side_core.specs.Comings.{CompletesAt}
 use Rattle.side_core.specs.Landing.{MayCompleteIn, CompletesIn}

@@ -1,8 +1,7 @@
-use Rattle.std.proofs.Common.{◌≡◌, ◌∙◌, ◌<◌, refl, sym, subst, ap, map, length, Some, List}
+use Rattle.std.proofs.Common.{◌∙◌, ◌<◌, refl, sym, subst, ap, map, length, Some, List}
 use Rattle.std.specs.Prelude.{slice_set}
 use Rattle.conn_end.specs.Kept.{Kept}
 use Rattle.clc_handshake.specs.Stages.{Hand}
-use Rattle.pipe_model.specs.Connections.{HasFallen}
 use Rattle.side_core.specs.Fit.{IsManager, IsFit}
 use Rattle.side_core.specs.Manager.{Manager, StandsFor, hand_of, state_at, with_hand}
 use Rattle.side_core.proofs.Acts.{falls_fit}

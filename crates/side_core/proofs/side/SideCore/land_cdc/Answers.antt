@@ -1,8 +1,7 @@
-use Rattle.std.proofs.Common.{◌≡◌, ◌++◌, ◌∙◌, ℕ, refl, sym, subst, ap, map, List, Some, Option}
+use Rattle.std.proofs.Common.{◌≡◌, ◌++◌, ◌∙◌, ℕ, sym, subst, map, List, Some}
 use Rattle.conn_end.specs.Kept.{Kept}
 use Rattle.pipe_model.specs.declared.post.Post.{Post}
-use Rattle.pipe_model.specs.declared.sent.Sent.{Sent}
-use Rattle.pipe_model.specs.Ends.{Half, takes}
+use Rattle.pipe_model.specs.Ends.{takes}
 use Rattle.side_core.specs.Records.{conn_at, holder}
 use Rattle.side_core.specs.Comings.{ArrivesAt}
 use Rattle.side_core.specs.Landing.{MayLandIn, LandsIn}

@@ -1,7 +1,7 @@
-use Rattle.std.proofs.Common.{◌≡◌, ◌∙◌, refl, sym, subst, ap, map, List, Some}
+use Rattle.std.proofs.Common.{sym, subst, map, List}
 use Rattle.conn_end.specs.Kept.{Kept}
 use Rattle.side_core.specs.Fit.{IsManager}
-use Rattle.side_core.specs.Manager.{Manager, StandsFor, hand_of}
+use Rattle.side_core.specs.Manager.{Manager, hand_of}
 use Rattle.rmb_region.specs.Regions.{Buffer}
 use Rattle.std.proofs.Common.{◌++◌}
 use Rattle.side_core.proofs.Arriving.{bytes_kept}

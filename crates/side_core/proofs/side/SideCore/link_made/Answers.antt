@@ -1,9 +1,8 @@
-use Rattle.std.proofs.Common.{◌≡◌, ◌++◌, ◌∙◌, ℕ, refl, sym, subst, ap, map, List, Option, Some, unwrap_or}
+use Rattle.std.proofs.Common.{sym, subst, map}
 use Rattle.conn_end.specs.Kept.{Kept}
-use Rattle.pipe_model.specs.Ends.{Half}
 use Rattle.side_core.specs.Desk.{Desk}
 use Rattle.side_core.specs.Fit.{IsManager, IsOneSlot}
-use Rattle.side_core.specs.Manager.{Manager, StandsFor, Works, hand_of}
+use Rattle.side_core.specs.Manager.{Manager, hand_of}
 use Rattle.side_core.specs.Landing.{CanMake}
 use Rattle.side_core.specs.Desk.{makes_link}
 use Rattle.side_core.specs.Taking.{with_desk}

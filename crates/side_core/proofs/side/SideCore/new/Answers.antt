@@ -1,4 +1,4 @@
-use Rattle.std.proofs.Common.{◌≡◌, ◌∙◌, ℕ, ap, map, List}
+use Rattle.std.proofs.Common.{◌∙◌, ℕ, ap, map}
 use Rattle.conn_end.specs.Kept.{Kept}
 use Rattle.pipe_model.specs.Words.{elements_of}
 use Rattle.side_core.specs.Desk.{Desk}

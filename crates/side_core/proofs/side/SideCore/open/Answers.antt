@@ -1,4 +1,4 @@
-use Rattle.std.proofs.Common.{◌≡◌, ◌∙◌, ◌<◌, refl, sym, subst, ap, map, length, Some, List}
+use Rattle.std.proofs.Common.{◌∙◌, ◌<◌, refl, sym, subst, ap, map, length, Some, List}
 use Rattle.std.specs.Prelude.{slice_set}
 use Rattle.conn_end.specs.Kept.{Kept}
 use Rattle.clc_handshake.specs.Stages.{Hand, first_state}

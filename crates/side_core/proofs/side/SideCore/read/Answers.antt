@@ -1,10 +1,8 @@
-use Rattle.std.proofs.Common.{◌≡◌, ◌++◌, ◌∙◌, sym, subst, ap, IsSome, List, map, length}
+use Rattle.std.proofs.Common.{◌∙◌, sym, subst, ap, IsSome, List, map, length}
 use Rattle.conn_end.specs.Kept.{Kept}
-use Rattle.pipe_model.specs.declared.post.Post.{Post}
-use Rattle.pipe_model.specs.Calls.{Call, Writes, Reads}
-use Rattle.pipe_model.specs.Ends.{Half}
-use Rattle.side_core.specs.Records.{Records, conn_at}
-use Rattle.side_core.specs.Acting.{call_of, acts_at, due_at}
+use Rattle.pipe_model.specs.Calls.{Call, Reads}
+use Rattle.side_core.specs.Records.{conn_at}
+use Rattle.side_core.specs.Acting.{call_of, acts_at}
 use Rattle.side_core.specs.Fit.{IsManager}
 use Rattle.side_core.specs.Manager.{Manager, StandsFor, hand_of, state_at}
 use Rattle.side_core.proofs.Acts.{acts_fit}
