@@ -6,6 +6,7 @@ pub mod Confirms
 pub mod Counting
 pub mod Dues
 pub mod Halves
+pub mod Hearing
 pub mod Keeping
 pub mod Loans
 pub mod News

@@ -1,4 +1,4 @@
-use Rattle.std.proofs.Common.{rules, if◌then◌else◌, IfSome, IsSomeAnd, Bool, List, ◌≡◌, ◌++◌, ◌∷◌, ◌≤◌, ◌<◌, ◌==◌, ◌-◌, ◌^◌, ◌+◌, All, false, true, length, [], None, Some, IsSome, not, ℕ, ◌*◌, ◌/◌, ◌%◌, nat_eq, nat_lt, slice_index_or, slice_set, bit_and, bit_or, Fits, w8, w32, w64, Bor, MutBor}
+use Rattle.std.proofs.Common.{rules, if◌then◌else◌, IfSome, IsSomeAnd, Bool, List, ◌≡◌, ◌++◌, ◌∷◌, ◌≤◌, ◌<◌, ◌==◌, ◌-◌, ◌^◌, ◌+◌, All, false, true, length, [], None, Some, IsSome, not, ℕ, ◌*◌, ◌/◌, ◌%◌, nat_eq, nat_lt, slice_index_or, slice_set, bit_and, bit_or, Fits, w8, w32, w64, Bor, MutBor, sym, ◌∙◌, ap}
 use Rattle.smc_num.specs.Places.{rmb_at}
 use Rattle.side_core.specs.Setups.{CanBegin, CanStart}
 use Rattle.side_core.specs.Records.{begins, conn_at, route_at}
@@ -16,12 +16,14 @@ use Rattle.pipe_model.specs.Ends.{Half}
 use Rattle.pipe_model.specs.Replies.{step_told, ready_told}
 use Rattle.side_core.specs.Manager.{Manager, Works}
 use Rattle.side_core.specs.Taking.{accepts, quits, rises_at, IsOffer, is_ready, asks_link, starts, first_confirms, later_confirms, by_verdict, verdict_posts, verdict_risen, offered_link, hears, offer_for}
+use Rattle.side_core.proofs.Workings.{works_rises, route_within}
+use Rattle.side_core.proofs.Hearing.{rising}
 use Rattle.side_core.proofs.taking.rise.Goals as goal
 
 -- src/taking.rt:248:1
 pub returns-clause-works : goal.returns-clause-works
-returns-clause-works c = ?
+returns-clause-works c = λ m works. let up = rising c.args.s c.args.desk.now c.args.connections.now m c.in-Some.route c.way-way.result works (sym c.route.ensures ∙ c.in-Some.is) c.way-way.ensures in works_rises c.args.desk.now c.args.connections.now c.rise.new.self m c.args.s (route_within c.args.s c.args.connections.now c.in-Some.route (sym c.route.ensures ∙ c.in-Some.is)) (c.rise.ensures.end m.records works.records up.way_is) works
 
 -- src/taking.rt:248:1
 pub returns-clause-posts : goal.returns-clause-posts
-returns-clause-posts c = ?
+returns-clause-posts c = λ m works. let up = rising c.args.s c.args.desk.now c.args.connections.now m c.in-Some.route c.way-way.result works (sym c.route.ensures ∙ c.in-Some.is) c.way-way.ensures in c.rise.ensures.posts m.records works.records up.way_is ∙ ap (λ ps. c.args.posts.now.items ++ ps) up.posts
