@@ -1,6 +1,6 @@
 -- What a change of the desk or of the connections leaves of a side that works.
 -- A reader learns here that the ends stay tied to the live links of their side.
-use Rattle.std.proofs.Common.{inl, inr, ℕ, ◌≡◌, ◌≢◌, ◌∙◌, ◌<◌, Bool, true, false, cond, List, length, set, Option, Some, None, option_map, refl, sym, ap, subst}
+use Rattle.std.proofs.Common.{inl, inr, ℕ, ◌≡◌, ◌∙◌, ◌<◌, Bool, true, false, cond, List, length, set, Option, Some, None, option_map, refl, sym, ap, subst}
 use Rattle.std.proofs.Math.ListN.{get_or}
 use Rattle.std.proofs.lemmas.Bool.{cases_eq}
 use Rattle.std.proofs.lemmas.List.{get_or-set_same, get_or-set_other}
@@ -12,9 +12,9 @@ use Rattle.pipe_model.specs.Ends.{Half, is_due, settle, posts_batch, comes_up}
 use Rattle.conn_end.specs.Kept.{Kept}
 use Rattle.side_core.specs.declared.route.Route.{Route}
 use Rattle.side_core.proofs.Standing.{there_within}
-use Rattle.side_core.specs.Records.{Connection, Records, AllStand, conn_at, route_at, changes, begins, aims, rises, leaves}
+use Rattle.side_core.specs.Records.{Connection, Records, AllStand, conn_at, route_at, changes, begins, aims, rises}
 use Rattle.side_core.specs.Desk.{Desk, next_element, lends_next}
-use Rattle.side_core.specs.Manager.{Manager, Works, IsTied, IsTiedAt}
+use Rattle.side_core.specs.Manager.{Manager, Works, IsTiedAt}
 use Rattle.side_core.specs.Taking.{with_desk, starts, hears, rises_at}
 
 -- one place of a list becomes another one, and what holds of each place still does
