@@ -11,6 +11,7 @@ pub mod Dues
 pub mod Halves
 pub mod Handing
 pub mod Hands
+pub mod Hearing
 pub mod Judging
 pub mod Keeping
 pub mod Linking

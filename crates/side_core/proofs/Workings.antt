@@ -1,6 +1,6 @@
 -- What a change of the desk or of the connections leaves of a side that works.
 -- A reader learns here that the ends stay tied to the live links of their side.
-use Rattle.std.proofs.Common.{ℕ, ◌≡◌, ◌≢◌, ◌∙◌, ◌<◌, Bool, true, false, cond, List, length, set, Option, Some, None, option_map, refl, sym, ap, subst, inl, inr}
+use Rattle.std.proofs.Common.{inl, inr, ℕ, ◌≡◌, ◌∙◌, ◌<◌, Bool, true, false, cond, List, length, set, Option, Some, None, option_map, refl, sym, ap, subst}
 use Rattle.std.proofs.Math.ListN.{get_or}
 use Rattle.std.proofs.lemmas.Bool.{cases_eq}
 use Rattle.std.proofs.lemmas.List.{get_or-set_same, get_or-set_other}
@@ -10,9 +10,11 @@ use Rattle.clc_wire.specs.declared.offer.Offer.{Offer}
 use Rattle.element_ledger.specs.declared.Element.{Element}
 use Rattle.pipe_model.specs.Ends.{Half, is_due, settle, posts_batch, comes_up}
 use Rattle.conn_end.specs.Kept.{Kept}
-use Rattle.side_core.specs.Records.{Connection, Records, AllStand, conn_at, changes, begins, aims, rises, leaves}
+use Rattle.side_core.specs.declared.route.Route.{Route}
+use Rattle.side_core.proofs.Standing.{there_within}
+use Rattle.side_core.specs.Records.{Connection, Records, AllStand, conn_at, route_at, changes, begins, aims, rises}
 use Rattle.side_core.specs.Desk.{Desk, next_element, lends_next}
-use Rattle.side_core.specs.Manager.{Manager, Works, IsTied, IsTiedAt}
+use Rattle.side_core.specs.Manager.{Manager, Works, IsTiedAt}
 use Rattle.side_core.specs.Taking.{with_desk, starts, hears, rises_at}
 
 -- one place of a list becomes another one, and what holds of each place still does
@@ -80,3 +82,11 @@ works_rises d r w m s within risen works = record {
   records = risen;
   tied = tied_changes m.desk.links.known m.records s _ (subst (λ n. s < n) works.records.sockets within) (λ c. settle_live m.records.terms.depth (comes_up c.route.link c.end)) works.tied;
 }
+
+-- a socket with a route is in range
+pub route_within : {E : Type 0} (s : ℕ) (r : Records E) (route : Route) → route_at s r ≡ Some route → s < length r.by_socket
+route_within {E = E} s r route is = within (get_or r.by_socket s None) refl is
+  where
+    within : (o : Option (Connection E)) → get_or r.by_socket s None ≡ o → option_map (λ c. c.route) o ≡ Some route → s < length r.by_socket
+    within None e f = absurd (let g : None ≡ Some route = f in cc)
+    within (Some k) e f = there_within r.by_socket s k e

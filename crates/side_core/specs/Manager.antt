@@ -1,6 +1,6 @@
 -- The manager of one side: what it keeps of its group, the handshakes of its sockets, its connections and its buffers.
 -- A reader learns here for which plain manager, whose ends are those of the private pipes, a manager stands.
-use Rattle.std.specs.Prelude.{◌≡◌, ℕ, true, false, List, length, map, replicate, slice_index_or, slice_set, Option, Some, None}
+use Rattle.std.specs.Prelude.{◌≡◌, ℕ, false, List, length, map, replicate, slice_index_or, slice_set, Option, Some, None, ◌<◌, ◌^◌}
 use Rattle.smc_num.specs.declared.Side.{Side}
 use Rattle.smc_num.specs.Names.{up_to}
 use Rattle.smc_num.specs.Links.{Known, live_links}
@@ -80,3 +80,9 @@ pub record StandsFor (v : Manager Kept) (m : Manager Half) : Type 0 where
   pub works : Works v.desk v.records m
   pub hands : v.hands ≡ m.hands
   pub regions : v.regions ≡ m.regions
+
+-- that there is such a plain manager, of whose ends the first numbers are small
+pub record IsWorking (d : Desk) (r : Records Kept) : Type 0 where
+  pub plain : Manager Half
+  pub works : Works d r plain
+  pub number : r.terms.number < 2 ^ 63

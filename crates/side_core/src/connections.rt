@@ -92,6 +92,7 @@ impl Connections {
 
     /// How many tokens this side has given.
     pub fn tokens(&self) -> u32
+        requires { self.now.tokens < 2 ^ 32 }
         ensures { result ≡ self.now.tokens }
     {
         self.by_token.len() as u32

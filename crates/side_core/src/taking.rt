@@ -14,7 +14,7 @@ ghost use Rattle.smc_num.specs.Links.{live_links, first_live};
 ghost use Rattle.clc_handshake.specs.Stages.{named_group};
 ghost use Rattle.pipe_model.specs.Ends.{Half};
 ghost use Rattle.pipe_model.specs.Replies.{step_told, ready_told};
-ghost use Rattle.side_core.specs.Manager.{Manager, Works};
+ghost use Rattle.side_core.specs.Manager.{IsWorking, Manager, Works};
 ghost use Rattle.side_core.specs.Taking.{accepts, quits, rises_at, IsOffer, is_ready, asks_link, starts, first_confirms, later_confirms, by_verdict, verdict_posts, verdict_risen, offered_link, hears, offer_for};
 
 use crate::connections::Connections;
@@ -172,6 +172,7 @@ fn confirm_first(
     requires begins { CanBegin desk.old }
     requires heard { IsOffer offer.now link (beside desk.old connections.old) }
     requires next { link.incarnation ≡ made_on link.slot desk.old + 1 }
+    requires working { IsWorking desk.old connections.old }
     requires room { length posts.old.items ≤ 2 }
     ensures works { (m : Manager Half) → Works desk.old connections.old m → Works desk.new connections.new (first_confirms s link offer.now m) }
     ensures posts { (m : Manager Half) → Works desk.old connections.old m
@@ -197,6 +198,7 @@ fn confirm_later(
     requires can { CanStart s desk.old connections.old }
     requires begun { (desk.old.group == 0) ≡ false }
     requires heard { IsOffer offer.now link (beside desk.old connections.old) }
+    requires working { IsWorking desk.old connections.old }
     requires room { length posts.old.items ≤ 2 }
     ensures works { (m : Manager Half) → Works desk.old connections.old m → Works desk.new connections.new (later_confirms s link offer.now m) }
     ensures posts { (m : Manager Half) → Works desk.old connections.old m
@@ -222,6 +224,7 @@ fn be_ready(
     requires route { IsSomeAnd (route_at s connections.old) (λ r. (r.link ≡ link) × (r.peer ≡ None)) }
     requires heard { IsOffer offer.now link (beside desk.old connections.old) }
     requires sound { IsSoundAt connections.old.terms.size (conn_at s connections.old) }
+    requires working { IsWorking desk.old connections.old }
     requires room { length posts.old.items ≤ 2 }
     ensures works { (m : Manager Half) → Works desk.old connections.old m → Works desk.new connections.new (is_ready s link offer.now m) }
     ensures posts { (m : Manager Half) → Works desk.old connections.old m
@@ -303,6 +306,7 @@ pub fn carry_out(
     posts: &mut ArrayVec<Post, 6>,
 )
     requires may { Allows s step message.now link paths.now desk.old connections.old }
+    requires working { IsWorking desk.old connections.old }
     requires room { length posts.old.items ≤ 2 }
     ensures works { (m : Manager Half) → Works desk.old connections.old m → Works desk.new connections.new (by_verdict s message.now link paths.now m step) }
     ensures posts { (m : Manager Half) → Works desk.old connections.old m

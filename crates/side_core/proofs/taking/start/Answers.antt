@@ -16,8 +16,9 @@ use Rattle.pipe_model.specs.Ends.{Half}
 use Rattle.pipe_model.specs.Replies.{step_told, ready_told}
 use Rattle.side_core.specs.Manager.{Manager, Works}
 use Rattle.side_core.specs.Taking.{accepts, quits, rises_at, IsOffer, is_ready, asks_link, starts, first_confirms, later_confirms, by_verdict, verdict_posts, verdict_risen, offered_link, hears, offer_for}
+use Rattle.side_core.proofs.Workings.{works_start}
 use Rattle.side_core.proofs.taking.start.Goals as goal
 
 -- src/taking.rt:100:1
 pub returns-clause-works : goal.returns-clause-works
-returns-clause-works c = ?
+returns-clause-works c = λ m works. works_start c.args.desk.now c.lend-element.new.self c.args.connections.now c.begin.new.self m c.args.s c.args.link c.lend-element.result c.requires.free.socket c.lend-element.ensures.element c.lend-element.ensures.desk c.begin.ensures.begins works
