@@ -10,6 +10,7 @@ pub mod Hearing
 pub mod Keeping
 pub mod Loans
 pub mod News
+pub mod Offering
 pub mod OneRmb
 pub mod Seats
 pub mod Shelving
