@@ -1,6 +1,6 @@
 -- A side whose link a message confirms.
 -- A reader learns here that the manager stands then for what the step makes of the plain one, and that all fits in it.
-use Rattle.std.proofs.Common.{◌≡◌, ◌∙◌, ◌==◌, ℕ, Bool, true, false, List, Option, Some, None, refl, sym, ap, subst}
+use Rattle.std.proofs.Common.{◌≡◌, ◌∙◌, ◌==◌, ℕ, true, false, List, Some, refl, sym, ap, subst}
 use Rattle.std.specs.Prelude.{slice_index_or}
 use Rattle.smc_num.specs.declared.LinkId.{LinkId}
 use Rattle.smc_num.specs.Links.{link_at}
@@ -9,13 +9,12 @@ use Rattle.pipe_model.specs.declared.flow.LinkView.{LinkView}
 use Rattle.pipe_model.specs.declared.flow.FlowStep.{FlowStep}
 use Rattle.pipe_model.specs.declared.flow.FlowStep.TheVariants.{Live}
 use Rattle.pipe_model.specs.Ends.{Half}
-use Rattle.pipe_model.specs.Connections.{WaitsLink}
 use Rattle.pipe_model.specs.Flows.{flow_step}
 use Rattle.conn_end.specs.Kept.{Kept}
 use Rattle.clc_handshake.specs.Stages.{Hand}
-use Rattle.side_core.specs.Records.{Records, conn_at}
+use Rattle.side_core.specs.Records.{conn_at}
 use Rattle.side_core.specs.Desk.{Desk, confirmed_by, IsPendingFor}
-use Rattle.side_core.specs.Manager.{Manager, Works, StandsFor, no_hand, hand_at, state_at}
+use Rattle.side_core.specs.Manager.{Manager, Works, StandsFor, no_hand, hand_at}
 use Rattle.side_core.specs.Acting.{IsSoundAt, MayConfirm, MayRise, IsWaitingFor, step_at, confirms_link, rises_first, hands_after}
 use Rattle.side_core.specs.Fit.{IsOneSlot, IsManager, IsFit}
 use Rattle.side_core.proofs.Confirms.{confirms_fit}

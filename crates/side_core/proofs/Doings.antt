@@ -1,14 +1,14 @@
 -- What the end of a socket does under its manager.
 -- A reader learns here that calls, landings and completions leave the live links, and that the manager then stands for what they make of it.
-use Rattle.std.proofs.Common.{◌≡◌, ◌∙◌, ℕ, ◌<◌, ◌≤◌, ◌&&◌, ◌++◌, Bool, true, false, cond, List, [], length, Option, Some, None, IsSome, IfSome, is_some, option_map, refl, sym, ap, subst, true≢false}
+use Rattle.std.proofs.Common.{◌≡◌, ◌∙◌, ℕ, ◌<◌, ◌&&◌, ◌++◌, Bool, true, false, cond, List, [], length, Option, Some, None, IsSome, IfSome, option_map, refl, sym, ap, subst, true≢false}
 use Rattle.smc_num.specs.declared.LinkId.{LinkId}
 use Rattle.smc_num.specs.Names.{has_link}
-use Rattle.smc_num.specs.Links.{Known, live_links}
+use Rattle.smc_num.specs.Links.{live_links}
 use Rattle.pipe_model.specs.declared.sent.Sent.{Sent}
 use Rattle.pipe_model.specs.declared.post.Post.{Post}
 use Rattle.pipe_model.specs.Pipe.{Terms}
 use Rattle.pipe_model.specs.Snapshot.{shows_gap}
-use Rattle.pipe_model.specs.Ends.{Half, is_over, settle, takes, validates, takes_snapshot, completes}
+use Rattle.pipe_model.specs.Ends.{Half, settle, takes, validates, takes_snapshot, completes}
 use Rattle.pipe_model.specs.declared.reply.Reply.{Reply}
 use Rattle.pipe_model.specs.declared.reply.ResetCause.{ResetCause}
 use Rattle.pipe_model.specs.Closing.{cause_of}
@@ -16,17 +16,15 @@ use Rattle.pipe_model.specs.Calls.{Call, Told, Plain, Writes, Reads, calls, half
 use Rattle.conn_end.specs.declared.answers.EndReply.{EndReply}
 use Rattle.conn_end.specs.Told.{Answers, told_of}
 use Rattle.side_core.specs.Landing.{told_at}
-use Rattle.conn_end.specs.Kept.{Kept, StandsFor as EndStandsFor}
-use Rattle.conn_end.specs.Batches.{may_post}
-use Rattle.side_core.specs.declared.route.Route.{Route}
+use Rattle.conn_end.specs.Kept.{Kept}
 use Rattle.side_core.specs.declared.route.Way.{Way}
 use Rattle.side_core.specs.Records.{Connection, Records, AllStand, StandsAt, conn_at, half_at, route_at, settles}
 use Rattle.side_core.specs.Posting.{IsWay, posts_at, due_posts}
 use Rattle.side_core.specs.Desk.{Desk}
-use Rattle.side_core.specs.Manager.{Manager, Works, StandsFor, IsTiedAt}
-use Rattle.side_core.specs.Acting.{key_to, way_of, due_at, due_from, acts_at, call_of}
+use Rattle.side_core.specs.Manager.{Manager, StandsFor, IsTiedAt}
+use Rattle.side_core.specs.Acting.{way_of, due_at, due_from, acts_at, call_of}
 use Rattle.side_core.proofs.Keeping.{IsAlike, writes_alike, reads_alike, takes_alike, completes_alike}
-use Rattle.side_core.proofs.Standing.{IsFound, finds_plain, there_within}
+use Rattle.side_core.proofs.Standing.{there_within}
 use Rattle.side_core.proofs.Workings.{settle_live, tied_changes}
 
 -- that what is told are no bytes

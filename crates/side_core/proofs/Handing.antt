@@ -1,8 +1,7 @@
 -- What an answer to a read hands out.
 -- A reader learns here that it is never more than was asked for, nor than an element has.
-use Rattle.std.proofs.Common.{◌≡◌, ◌∙◌, ℕ, ◌+◌, ◌-◌, ◌<◌, ◌≤◌, ◌==◌, ◌||◌, Bool, true, false, nat_lt, min, List, [], ◌∷◌, length, take, drop, replicate, Option, Some, None, unwrap_or, option_map, refl, sym, ap, subst, arith, true≢false}
+use Rattle.std.proofs.Common.{◌≡◌, ◌∙◌, ℕ, ◌+◌, ◌-◌, ◌≤◌, ◌==◌, ◌||◌, nat_lt, min, List, [], ◌∷◌, length, take, drop, replicate, Option, Some, None, unwrap_or, option_map, sym, ap, subst, arith}
 use Rattle.std.proofs.lemmas.List.{length-take, length-drop, length-replicate}
-use Rattle.std.specs.Prelude.{slice_index_or}
 use Rattle.rmb_region.specs.Regions.{Buffer}
 use Rattle.pipe_model.specs.declared.reply.Reply.{Reply}
 use Rattle.pipe_model.specs.declared.reply.ResetCause.{ResetCause}
@@ -12,13 +11,13 @@ use Rattle.pipe_model.specs.Calls.{Told, Plain, Hands, Reads, half_told}
 use Rattle.conn_end.specs.Kept.{Kept}
 use Rattle.conn_end.specs.declared.answers.EndReply.{EndReply}
 use Rattle.conn_end.specs.declared.answers.EndReply.TheVariants.{Take}
-use Rattle.conn_end.specs.Told.{Answers, told_of}
+use Rattle.conn_end.specs.Told.{Answers}
 use Rattle.side_core.specs.declared.route.Route.{Route}
 use Rattle.side_core.specs.Desk.{Desk}
 use Rattle.side_core.specs.Records.{Connection, StandsAt, conn_at, half_at, route_at}
-use Rattle.side_core.specs.Manager.{Manager, StandsFor}
-use Rattle.side_core.specs.Acting.{IsSoundAt, MayHand, IsHandable, buffer_of}
-use Rattle.side_core.specs.Fit.{HasElement, IsOneBuffer, IsFit, IsManager}
+use Rattle.side_core.specs.Manager.{Manager}
+use Rattle.side_core.specs.Acting.{IsSoundAt, MayHand, IsHandable}
+use Rattle.side_core.specs.Fit.{HasElement, IsOneBuffer, IsManager}
 use Rattle.pipe_model.specs.declared.snapshot.Snapshot.{Snapshot}
 use Rattle.pipe_model.specs.Pipe.{Terms}
 use Rattle.pipe_model.specs.Words.{element_size}

@@ -1,6 +1,6 @@
 -- The handshakes of a side, by socket.
 -- A reader learns here that a manager whose handshake of a socket becomes another one stands for the plain one with the same change.
-use Rattle.std.proofs.Common.{◌≡◌, ◌∙◌, ℕ, zero, suc, ◌<◌, List, [], ◌∷◌, length, map, replicate, Option, Some, None, refl, sym, ap, subst}
+use Rattle.std.proofs.Common.{◌≡◌, ◌∙◌, ℕ, zero, suc, List, [], ◌∷◌, map, replicate, Option, Some, None, refl, sym, ap}
 use Rattle.std.specs.Prelude.{slice_index_or, slice_set}
 use Rattle.clc_handshake.specs.Stages.{Hand}
 use Rattle.pipe_model.specs.Ends.{Half}

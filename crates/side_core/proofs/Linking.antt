@@ -1,25 +1,21 @@
 -- The link of the one slot, as it is made and as it goes live.
 -- A reader learns here that the ends of a side stay tied to its live links then.
-use Rattle.std.proofs.Common.{◌≡◌, ◌∙◌, ℕ, zero, suc, ◌==◌, ◌++◌, if◌then◌else◌, nat_lt, Bool, true, false, cond, List, [], ◌∷◌, map, length, Option, Some, None, option_map, unwrap_or, refl, sym, ap, subst, true≢false}
-use Rattle.std.specs.Prelude.{slice_index_or, slice_set}
-use Rattle.std.proofs.lemmas.Bool.{eq-eqb, or_right}
+use Rattle.std.proofs.Common.{◌≡◌, ◌∙◌, ℕ, zero, suc, if◌then◌else◌, nat_lt, true, false, cond, List, [], ◌∷◌, map, Option, Some, None, option_map, unwrap_or, refl, sym, ap, subst, true≢false}
+use Rattle.std.specs.Prelude.{slice_index_or}
+use Rattle.std.proofs.lemmas.Bool.{eq-eqb}
 use Rattle.std.proofs.lemmas.List.{length-map}
 use Rattle.smc_num.specs.declared.LinkId.{LinkId}
 use Rattle.smc_num.specs.declared.LinkPhase.{LinkPhase}
 use Rattle.smc_num.specs.declared.LinkPhase.TheVariants.{Unused, Pending, Live as LiveLink, Dead}
-use Rattle.smc_num.specs.Links.{Known, is_live, is_pending, is_standing, link_at, phase_at, live_links, put, set_phase}
+use Rattle.smc_num.specs.Links.{Known, is_live, is_standing, link_at, phase_at, live_links, put, set_phase}
 use Rattle.pipe_model.specs.declared.flow.FlowStep.{FlowStep}
 use Rattle.pipe_model.specs.declared.flow.FlowStep.TheVariants.{Live}
-use Rattle.pipe_model.specs.declared.post.Post.{Post}
 use Rattle.pipe_model.specs.Ends.{Half, with_link, meets_fate}
-use Rattle.pipe_model.specs.Connections.{IsUp}
-use Rattle.clc_handshake.specs.Stages.{Hand}
-use Rattle.rmb_region.specs.Regions.{Buffer}
 use Rattle.conn_end.specs.Kept.{Kept}
-use Rattle.side_core.specs.Records.{Connection, Records, AllStand, StandsAt, conn_at, rises}
+use Rattle.side_core.specs.Records.{Connection, Records, StandsAt, conn_at}
 use Rattle.side_core.specs.Desk.{Desk, makes_link, goes_live, confirmed_by, IsPendingFor}
-use Rattle.side_core.specs.Manager.{Manager, Works, StandsFor, IsTied, IsTiedAt, no_hand, hand_at, with_hand}
-use Rattle.side_core.specs.Acting.{all_hear, link_lives, first_rises, confirms_link, confirming_posts, rises_first, hands_after, posts_after, reply_of_desk, risen_at}
+use Rattle.side_core.specs.Manager.{Manager, Works, StandsFor, IsTiedAt}
+use Rattle.side_core.specs.Acting.{link_lives, confirms_link, confirming_posts, rises_first, hands_after, posts_after}
 use Rattle.side_core.specs.Landing.{CanMake}
 use Rattle.side_core.specs.Taking.{with_desk}
 use Rattle.side_core.specs.Fit.{IsOneSlot}
@@ -74,10 +70,7 @@ heard_conn f [] t = refl
 heard_conn f (x ∷ xs) zero = refl
 heard_conn f (x ∷ xs) (suc t) = heard_conn f xs t
 
--- an end that hears of a link
-hears_of : LinkId → Connection Half → Connection Half
-hears_of link c = record c { end = meets_fate link LiveLink c.end }
-
+-- an end that hears of a link stands for the same
 stands_heard : (link : LinkId) (k : Option (Connection Kept)) (c : Option (Connection Half)) → StandsAt k c → StandsAt k (option_map (λ (x : Connection Half). let y : Connection Half = record x { end = meets_fate link LiveLink x.end } in y) c)
 stands_heard link None None stands = stands
 stands_heard link None (Some c) stands = absurd stands

@@ -1,25 +1,24 @@
 -- What a manager that fits together has at a socket.
 -- A reader learns here that an end which is up, or waits for its link, has a connection whose peer is known.
-use Rattle.std.proofs.Common.{◌≡◌, ◌∙◌, ℕ, ◌<◌, ◌≤◌, ◌^◌, ◌+◌, ◌==◌, ◌&&◌, Bool, true, List, length, Option, Some, None, IsSome, IfSome, IsSomeAnd, is_some, option_map, refl, sym, ap, subst, arith, true≢false}
+use Rattle.std.proofs.Common.{◌≡◌, ◌∙◌, ℕ, ◌<◌, ◌≤◌, ◌^◌, ◌+◌, ◌==◌, ◌&&◌, Bool, true, List, length, Option, Some, None, IsSome, IfSome, IsSomeAnd, option_map, refl, sym, ap, subst, arith, true≢false}
 use Rattle.std.specs.Prelude.{slice_index_or}
 use Rattle.smc_num.specs.declared.LinkId.{LinkId}
 use Rattle.smc_num.specs.Places.{rmb_at}
 use Rattle.clc_wire.specs.declared.offer.Offer.{Offer}
 use Rattle.clc_wire.specs.declared.message.ClcMessage.{ClcMessage}
 use Rattle.clc_wire.specs.declared.message.ClcMessage.TheVariants.{Proposal, Accept, Confirm, Decline}
-use Rattle.rmb_region.specs.Regions.{Buffer}
 use Rattle.clc_handshake.specs.Stages.{Hand}
 use Rattle.pipe_model.specs.Ends.{Half}
-use Rattle.pipe_model.specs.Connections.{EndState, IsUp, WaitsLink}
+use Rattle.pipe_model.specs.Connections.{IsUp, WaitsLink}
 use Rattle.conn_end.specs.Kept.{Kept}
 use Rattle.side_core.specs.declared.route.Route.{Route}
-use Rattle.side_core.specs.Records.{Connection, Records, IsSmall, StandsAt, conn_at, route_at, aimer}
+use Rattle.side_core.specs.Records.{Connection, IsSmall, conn_at, route_at}
 use Rattle.side_core.specs.Desk.{Desk, made_on}
 use Rattle.side_core.specs.Manager.{Manager, StandsFor, no_hand, state_at}
 use Rattle.side_core.specs.Acting.{IsSoundAt, IsRising}
 use Rattle.pipe_model.specs.Replies.{expects}
 use Rattle.side_core.specs.Taking.{MayTake, MayHear, IsOffer, IsNext}
-use Rattle.side_core.specs.Fit.{Suits, HasElement, IsFit, IsManager}
+use Rattle.side_core.specs.Fit.{Suits, HasElement, IsManager}
 use Rattle.side_core.proofs.Allowed.{routes_same, aimers_same}
 
 -- the counts of an end that is sound are far from the end of a u64

@@ -1,6 +1,6 @@
 -- The parts of a side that nothing concerned.
 -- A reader learns here that together they are a new manager.
-use Rattle.std.proofs.Common.{◌≡◌, ◌∙◌, ℕ, ◌≤◌, List, [], ◌∷◌, length, map, replicate, Option, None, refl, sym, ap, subst, arith}
+use Rattle.std.proofs.Common.{◌≡◌, ◌∙◌, ℕ, List, [], ◌∷◌, length, map, replicate, None, sym, ap, subst, arith}
 use Rattle.std.proofs.lemmas.List.{length-map, length-append}
 use Rattle.std.proofs.lemmas.List.FromFn.{length-map-range_with_len}
 use Rattle.smc_num.specs.declared.Side.{Side}
@@ -15,7 +15,7 @@ use Rattle.pipe_model.specs.Ends.{Half}
 use Rattle.clc_handshake.specs.Stages.{Hand}
 use Rattle.conn_end.specs.Kept.{Kept}
 use Rattle.side_core.specs.Inside.{made_with}
-use Rattle.side_core.specs.Records.{Records, AllStand, no_records, conn_at}
+use Rattle.side_core.specs.Records.{Records, AllStand, no_records}
 use Rattle.side_core.specs.Setups.{IsSet}
 use Rattle.side_core.specs.Desk.{Desk, new_desk}
 use Rattle.side_core.specs.Manager.{Manager, StandsFor, IsTiedAt, no_hand, new_manager}

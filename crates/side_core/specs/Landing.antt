@@ -1,6 +1,6 @@
 -- Messages of the peer that land, and a side's own that complete.
 -- A reader learns here which end takes a message, what a caller must see to then, and what is told where no end takes it.
-use Rattle.std.specs.Prelude.{◌≡◌, ℕ, ◌&&◌, ◌==◌, Bool, true, false, List, [], ◌∷◌, Option, Some, None, ◌+◌}
+use Rattle.std.specs.Prelude.{◌≡◌, ℕ, ◌==◌, Bool, true, false, List, [], ◌∷◌, Option, Some, None, ◌+◌}
 use Rattle.smc_num.specs.declared.Side.{Side}
 use Rattle.smc_num.specs.declared.Side.TheVariants.{A, B}
 use Rattle.smc_num.specs.declared.LinkId.{LinkId}
@@ -13,16 +13,14 @@ use Rattle.pipe_model.specs.declared.post.Post.{Post}
 use Rattle.pipe_model.specs.declared.post.Post.TheVariants.{Clc}
 use Rattle.pipe_model.specs.declared.verdict.ClcStep.{ClcStep}
 use Rattle.pipe_model.specs.declared.verdict.ClcStep.TheVariants.{Wait}
-use Rattle.pipe_model.specs.Snapshot.{is_last}
 use Rattle.pipe_model.specs.Closing.{cause_of}
-use Rattle.pipe_model.specs.Ends.{Half, is_over}
+use Rattle.pipe_model.specs.Ends.{Half}
 use Rattle.pipe_model.specs.Calls.{Call, Told, half_told}
 use Rattle.pipe_model.specs.Connections.{HasFallen}
 use Rattle.pipe_model.specs.Messages.{proposal}
 use Rattle.clc_handshake.specs.Stages.{first_state}
 use Rattle.conn_end.specs.Kept.{Kept}
-use Rattle.conn_end.specs.Arrivals.{Lands, MayLand, Completes, MayComplete}
-use Rattle.side_core.specs.Records.{Connection, conn_at, half_at, holder, aimer}
+use Rattle.side_core.specs.Records.{conn_at, half_at, holder, aimer}
 use Rattle.side_core.specs.Desk.{Desk, made_on}
 use Rattle.side_core.specs.Manager.{Manager, with_hand}
 use Rattle.side_core.specs.Acting.{IsSoundAt}

@@ -1,16 +1,11 @@
-use Rattle.std.proofs.Common.{◌≡◌, ◌++◌, ◌∙◌, ℕ, refl, sym, subst, ap, map, List, Option, Some, unwrap_or}
+use Rattle.std.proofs.Common.{◌++◌, ◌∙◌, refl, sym, subst, ap, map, List}
 use Rattle.conn_end.specs.Kept.{Kept}
-use Rattle.pipe_model.specs.Ends.{Half}
 use Rattle.side_core.specs.Records.{conn_at}
-use Rattle.side_core.specs.Desk.{Desk}
-use Rattle.side_core.specs.Fit.{IsManager, IsOneSlot}
-use Rattle.side_core.specs.Manager.{Manager, StandsFor, Works, hand_of}
-use Rattle.pipe_model.specs.declared.flow.FlowStep.{FlowStep}
+use Rattle.side_core.specs.Fit.{IsManager}
+use Rattle.side_core.specs.Manager.{Manager, StandsFor, hand_of}
 use Rattle.pipe_model.specs.declared.post.Post.{Post}
-use Rattle.side_core.specs.Desk.{IsPendingFor, confirmed_by}
-use Rattle.side_core.specs.Acting.{IsSoundAt, MayConfirm, confirms_link, step_at, rises_first}
-use Rattle.side_core.proofs.Confirms.{confirms_fit}
-use Rattle.side_core.proofs.Linking.{heard_by, heard_works, confirmed_stands, confirmed_posts}
+use Rattle.side_core.specs.Acting.{IsSoundAt, MayConfirm}
+use Rattle.side_core.proofs.Linking.{heard_by, confirmed_posts}
 use Rattle.side_core.proofs.Confirming.{confirmed_kept, confirmed_all, confirming_works, may_rise}
 use Rattle.side_core.proofs.side.SideCore.land_llc.Goals as goal
 
