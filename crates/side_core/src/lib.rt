@@ -16,6 +16,8 @@ mod route;
 mod shelf;
 mod side;
 mod taking;
+#[cfg(test)]
+mod tests;
 
 pub use clc_handshake::EndState;
 pub use conn_end::EndReply;
