@@ -1,2 +1,11 @@
+pub mod DataPosts
 pub mod Lists
+pub mod Moves
 pub mod Sound
+pub mod OpenEnds
+pub mod Growth
+pub mod Idle
+pub mod Carrying
+pub mod Carried
+pub mod PipePosts
+pub mod Places

@@ -1,3 +1,9 @@
+pub mod Agreement
 pub mod Connection
+pub mod OneLink
 pub mod Played
+pub mod Sockets
 pub mod Steps
+pub mod Views
+pub mod WireSteps
+pub mod Wired

@@ -1,0 +1,67 @@
+-- What the pipes take from the handshake: the one link, the offers and the ends that come up.
+-- A reader learns here which facts of links and sockets the agreement of wires and pipes rests on, and what it says.
+use Rattle.std.specs.Prelude.{◌≡◌, ◌⊎◌, ◌<◌, ◌==◌, ℕ, Bool, true, false, List, [], ◌∷◌, Option, Some, None}
+use Rattle.smc_num.specs.declared.Side.{Side}
+use Rattle.smc_num.specs.declared.Side.TheVariants.{A, B}
+use Rattle.smc_num.specs.declared.LinkId.{LinkId}
+use Rattle.smc_num.specs.declared.LinkPhase.TheVariants.{Live}
+use Rattle.smc_num.specs.Names.{other}
+use Rattle.pipe_model.specs.declared.setup.Setup.{Setup}
+use Rattle.pipe_model.specs.declared.entry.Entry.{Entry}
+use Rattle.pipe_model.specs.Words.{element_size}
+use Rattle.pipe_model.specs.History.{Offered, offered}
+use Rattle.pipe_model.specs.Fabric.{latest, loses_group_with}
+use Rattle.pipe_model.specs.Wires.{is_dead, unlanded, uncompleted}
+use Rattle.pipe_model.specs.Pipe.{Fate, half}
+use Rattle.pipe_model.specs.Parts.{IsFeasible}
+use Rattle.pipe_model.specs.Connections.{comes_up, is_up, fates, items, part, group_on}
+use Rattle.pipe_model.specs.Lending.{terms_of, pipe_of}
+use Rattle.pipe_model.specs.Lawful.{draft}
+use Rattle.world_core.specs.OneLink.{the_link}
+use Rattle.world_core.specs.Wired.{cdcs, IsCarried, keeps_open, EachItem, EachUpOn}
+
+-- the latest link of the slot: none, or the one link, which is not dead
+abbrev pub IsOnlyLink : List Entry → Type 0
+IsOnlyLink past = (latest 1 past ≡ None) ⊎ ((latest 1 past ≡ Some the_link) × (is_dead the_link past ≡ false))
+
+-- what holds of the offers after a history: all are on the one link, on known sockets and under different tokens of their side,
+-- and A offers only where B has
+pub record HasOffers (setup : Setup) (past : List Entry) : Type 0 where
+  pub link : (x : Side) (s : ℕ) (o : Offered) → offered x s past ≡ Some o → o.link ≡ the_link
+  pub known : (x : Side) (s : ℕ) (o : Offered) → offered x s past ≡ Some o → s < setup.sockets
+  pub tokens : (x : Side) (s t : ℕ) (o r : Offered) → offered x s past ≡ Some o → offered x t past ≡ Some r → o.offer.token ≡ r.offer.token → s ≡ t
+  pub answer : (s : ℕ) → offered B s past ≡ None → offered A s past ≡ None
+
+-- what the link does at a side with an entry: nothing, or it becomes live there, before which no end of that side is up
+abbrev pub IsCalm : Side → Entry → List Entry → Type 0
+IsCalm x e past = (fates x 1 e past ≡ []) ⊎ ((fates x 1 e past ≡ Fate x the_link Live ∷ []) × ((s : ℕ) → is_up x s past ≡ false))
+
+-- what an entry does to offers and ends: offers stay, an end comes up on the one link where its peer had offered, and no group ends
+pub record GoesOn (e : Entry) (past : List Entry) : Type 0 where
+  pub kept : (x : Side) (s : ℕ) (o : Offered) → offered x s past ≡ Some o → offered x s (e ∷ past) ≡ Some o
+  pub ups : (x : Side) (s : ℕ) (link : LinkId) → comes_up x s e past ≡ Some link → (link ≡ the_link) × ((o : Offered) × (offered (other x) s past ≡ Some o))
+  pub stands : (x : Side) (group : ℕ) → loses_group_with x group e past ≡ false
+
+-- what the pipes take from the handshake, after a history and with each of its entries
+abbrev pub IsShaken : Setup → List Entry → Type 0
+IsShaken setup [] = HasOffers setup []
+IsShaken setup (e ∷ past) = HasOffers setup (e ∷ past) × (IsOnlyLink past × (GoesOn e past × IsShaken setup past))
+
+-- that an offer has another token, where there is one
+abbrev pub IsElse : ℕ → Option Offered → Type 0
+IsElse token None = Unit {0}
+IsElse token (Some o) = (token == o.offer.token) ≡ false
+
+-- that the one link carries nothing of a side under a token that no offer of its peer gave
+pub record CarriesNoStranger (x : Side) (past : List Entry) : Type 0 where
+  pub landing : (token : ℕ) → ((s : ℕ) → IsElse token (offered (other x) s past)) → cdcs x token (unlanded the_link x past) ≡ []
+  pub completing : (token : ℕ) → ((s : ℕ) → IsElse token (offered (other x) s past)) → cdcs x token (uncompleted the_link x past) ≡ []
+
+-- that wires and pipes agree: each part can be, with no close in it; the link carries of each end what it has under way, and
+-- nothing else
+pub record Agree (setup : Setup) (payload : List ℕ) (past : List Entry) : Type 0 where
+  pub feasible : (s : ℕ) → IsFeasible (terms_of setup) (part payload 1 s past)
+  pub open_items : (s : ℕ) → EachItem keeps_open (part payload 1 s past)
+  pub on_link : (s : ℕ) → EachUpOn the_link (part payload 1 s past)
+  pub carried : (x : Side) (s : ℕ) (o : Offered) → offered (other x) s past ≡ Some o → IsCarried (element_size setup) the_link x o.offer.token past (half x (pipe_of setup payload 1 s past))
+  pub strange : (x : Side) → CarriesNoStranger x past
