@@ -1,6 +1,8 @@
 pub mod DataPosts
+pub mod InHistory
 pub mod Lists
 pub mod Moves
+pub mod Offers
 pub mod Sound
 pub mod OpenEnds
 pub mod Growth
@@ -9,3 +11,4 @@ pub mod Carrying
 pub mod Carried
 pub mod PipePosts
 pub mod Places
+pub mod Verdicts
