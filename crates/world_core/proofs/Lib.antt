@@ -4,6 +4,7 @@ pub mod Lists
 pub mod Moves
 pub mod Offers
 pub mod Sound
+pub mod NewManagers
 pub mod OpenEnds
 pub mod Growth
 pub mod Idle

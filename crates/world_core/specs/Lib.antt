@@ -1,5 +1,6 @@
 pub mod Agreement
 pub mod Connection
+pub mod Managers
 pub mod OneLink
 pub mod Played
 pub mod Sockets
