@@ -125,7 +125,7 @@ no-add = by-data (λ p. (f : Fabric) → asks_link p f ≡ f) (λ from link key 
 no-delete : (x : Side) (p : Post) → is_data p ≡ true → (f : Fabric) → asks_delete x p f ≡ f
 no-delete x = by-data (λ p. (f : Fabric) → asks_delete x p f ≡ f) (λ from link key address len f. refl) (λ from link m f. refl)
 
-unseen-after : (event : Event) (reply : Reply) (ps more : List Post) (past : List Entry) (f : Fabric) → AreData more → after event reply (ps ++ more) past f ≡ after event reply ps past f
+pub unseen-after : (event : Event) (reply : Reply) (ps more : List Post) (past : List Entry) (f : Fabric) → AreData more → after event reply (ps ++ more) past f ≡ after event reply ps past f
 unseen-after (ClcEvent s dir) (Sent AcceptSent) ps more past f a = unseen-first begins no-begins ps more a f
 unseen-after (ClcEvent s dir) (Sent ConfirmSent) ps more past f a = unseen-first begins no-begins ps more a f
 unseen-after (ClcEvent s A) (Sent KeySent) ps more past f a = unseen-first (asks_key B) (no-key B) ps more a f

@@ -21,27 +21,27 @@ use Rattle.world_core.proofs.OpenEnds.{each-append}
 use Rattle.world_core.proofs.Growth.{either, gone-on, passed-by}
 
 -- what holds of an end whose link, establishment and messages alone matter, and who knows nothing of the rest
-abbrev IsSame : Half → Half → Type 0
+abbrev pub IsSame : Half → Half → Type 0
 IsSame h k = (k.up ≡ h.up) × (k.link ≡ h.link) × (k.sent ≡ h.sent)
 
-same-takes : (o : Option Sent) (h : Half) → IsSame h (takes o h)
+pub same-takes : (o : Option Sent) (h : Half) → IsSame h (takes o h)
 same-takes None h = (refl, refl, refl)
 same-takes (Some m) h = either (IsSame h) h (if m.check then validates m.snapshot.number h else takes_snapshot m.snapshot h) (is_over h) (refl, refl, refl)
     (either (IsSame h) (validates m.snapshot.number h) (takes_snapshot m.snapshot h) m.check
     (either (IsSame h) (strikes (Gap (wire_number m.snapshot.number) (wire_number h.taken.number)) h) h (shows_gap m.snapshot.number h.taken.number) (refl, refl, refl) (refl, refl, refl))
     (either (IsSame h) (strikes PeerAbort (record h { taken = m.snapshot })) (record h { taken = m.snapshot }) m.snapshot.aborted (refl, refl, refl) (refl, refl, refl)))
 
-same-completes : (o : Option Sent) (h : Half) → IsSame h (completes o h)
+pub same-completes : (o : Option Sent) (h : Half) → IsSame h (completes o h)
 same-completes None h = (refl, refl, refl)
 same-completes (Some m) h = either (IsSame h) (counts_completed h) (record (counts_completed h) { fin = m.snapshot; flight = drop 1 h.flight; phase = after_completing m.snapshot h.phase }) m.check (refl, refl, refl) (refl, refl, refl)
 
-same-fate : (link : LinkId) (phase : LinkPhase) (h : Half) → IsSame h (meets_fate link phase h)
+pub same-fate : (link : LinkId) (phase : LinkPhase) (h : Half) → IsSame h (meets_fate link phase h)
 same-fate link Unused h = (refl, refl, refl)
 same-fate link Pending h = (refl, refl, refl)
 same-fate link Live h = (refl, refl, refl)
 same-fate link Dead h = (refl, refl, refl)
 
-same-call : (size : ℕ) (call : Call) (h : Half) → keeps_open (Calls A call) ≡ true → IsSame h (calls size call h)
+pub same-call : (size : ℕ) (call : Call) (h : Half) → keeps_open (Calls A call) ≡ true → IsSame h (calls size call h)
 same-call size (Writes bytes) h k = either (IsSame h) h (record h { out = h.out ++ take (window size h) bytes }) (is_some (cause_of h.phase) || is_ended h) (refl, refl, refl) (refl, refl, refl)
 same-call size (Reads n) h k = either (IsSame h) h (record h { rd = h.rd + min n (unread h) }) (is_some (cause_of h.phase) || is_closing h.phase) (refl, refl, refl) (refl, refl, refl)
 same-call size Finishes h k = absurd (true≢false (sym k))

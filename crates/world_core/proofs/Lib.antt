@@ -13,3 +13,6 @@ pub mod Carried
 pub mod PipePosts
 pub mod Places
 pub mod Verdicts
+pub mod Ways
+pub mod EntryItems
+pub mod Parts

@@ -1,12 +1,15 @@
 -- What an entry does to one wire: nothing leaves it, its next post lands, or its oldest landed post completes.
 -- A reader learns here the three ways in which a wire goes on, and which posts with CDC messages stand on which link.
-use Rattle.std.specs.Prelude.{◌≡◌, ◌≤◌, ℕ, Bool, true, false, List, [], ◌∷◌, length, Some}
+use Rattle.std.specs.Prelude.{◌≡◌, ◌⊎◌, ◌≤◌, ℕ, Bool, true, false, List, [], ◌∷◌, length, Some}
 use Rattle.smc_num.specs.declared.Side.{Side}
 use Rattle.smc_num.specs.declared.LinkId.{LinkId}
 use Rattle.pipe_model.specs.declared.post.Post.{Post}
 use Rattle.pipe_model.specs.declared.post.Post.TheVariants.{Cdc}
 use Rattle.pipe_model.specs.declared.post.Placed.{Placed}
 use Rattle.pipe_model.specs.declared.entry.Entry.{Entry}
+use Rattle.pipe_model.specs.Pipe.{Lands, Completes}
+use Rattle.pipe_model.specs.Connections.{deeds, if_own}
+use Rattle.world_core.specs.Wired.{EachItem, passes_by}
 use Rattle.pipe_model.specs.History.{post_at}
 use Rattle.pipe_model.specs.Wires.{unlanded, uncompleted, if_latest, leaves, lands_on, completes_on}
 
@@ -63,3 +66,11 @@ pub record IsPlaced (past : List Entry) (c : Placed) : Type 0 where
 abbrev pub EachPlaced : (Placed → Type 0) → List Placed → Type 0
 EachPlaced P [] = Unit {0}
 EachPlaced P (c ∷ cs) = P c × EachPlaced P cs
+
+-- the ways in which an entry moves the messages of a side on a link, with what it gives the pipe of each socket: none leaves
+-- the link, the next post lands, or the oldest landed one completes
+abbrev pub Way : List ℕ → LinkId → Side → Entry → List Entry → Type 0
+Way payload link x e past =
+    (Stays link x e past × ((s : ℕ) → EachItem (passes_by x) (deeds payload s e.event e.reply past)))
+    ⊎ (((l : LandsNow link x e past) × ((s : ℕ) → deeds payload s e.event e.reply past ≡ if_own (Lands x) x s (Some l.first.at) past))
+    ⊎ ((l : CompletesNow link x e past) × ((s : ℕ) → deeds payload s e.event e.reply past ≡ if_own (Completes x) x s (Some l.first.at) past)))
