@@ -1,8 +1,11 @@
+pub mod ClcMoves
 pub mod DataPosts
+pub mod Handshakes
 pub mod InHistory
 pub mod Lists
 pub mod Moves
 pub mod Offers
+pub mod QuietEvents
 pub mod Sound
 pub mod NewManagers
 pub mod OpenEnds

@@ -134,7 +134,7 @@ pub record IsQuiet (d : Entry) (older : List Entry) : Type 0 where
   pub waiting : (link : LinkId) (x : Side) → filter_map llc_in (drop (if_latest link older (leaves x link.slot d.event d.reply)) (unlanded link x older)) ≡ llc_waiting link x older
 
 -- keys and what was learnt go with a group
-has-group : (x : Side) (stage : Stage) → if_group (peer x (fabric_at stage)).group (keys_at x stage) ≡ keys_at x stage
+pub has-group : (x : Side) (stage : Stage) → if_group (peer x (fabric_at stage)).group (keys_at x stage) ≡ keys_at x stage
 has-group A NoLink = refl
 has-group A (Begun s) = refl
 has-group A (Made s) = refl
@@ -148,7 +148,7 @@ has-group B (Asking s qp) = refl
 has-group B (LiveAtA s qp) = refl
 has-group B (LiveAtBoth s) = refl
 
-has-book : (x : Side) (stage : Stage) → (if (peer x (fabric_at stage)).group == 0 then [] else book_at x stage) ≡ book_at x stage
+pub has-book : (x : Side) (stage : Stage) → (if (peer x (fabric_at stage)).group == 0 then [] else book_at x stage) ≡ book_at x stage
 has-book A NoLink = refl
 has-book A (Begun s) = refl
 has-book A (Made s) = refl
