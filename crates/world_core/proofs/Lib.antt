@@ -14,6 +14,10 @@ pub mod Idle
 pub mod Carrying
 pub mod Carried
 pub mod PipePosts
+pub mod Tables
+pub mod SameManagers
+pub mod KeptManagers
+pub mod PipeSteps
 pub mod Places
 pub mod Verdicts
 pub mod Ways

@@ -28,7 +28,7 @@ use Rattle.pipe_model.specs.Messages.{serial, pair_on}
 use Rattle.pipe_model.specs.Posts.{groups_begun}
 use Rattle.clc_handshake.specs.Stages.{Hand}
 use Rattle.side_core.specs.declared.route.Route.{Route}
-use Rattle.side_core.specs.Records.{Connection, Records}
+use Rattle.side_core.specs.Records.{Connection, Records, changes}
 use Rattle.side_core.specs.Desk.{Desk, most_slots}
 use Rattle.side_core.specs.Manager.{Manager}
 
@@ -143,3 +143,7 @@ manager_of setup payload regions x past = record {
   records = records_of setup payload x past;
   regions = regions;
 }
+
+-- a manager with the end of a socket changed, where nothing is posted
+abbrev pub changes_end : ℕ → (Half → Half) → Manager Half → Manager Half
+changes_end s act m = record m { records = changes s (λ (c : Connection Half). let k : Connection Half = record c { end = act c.end } in k) m.records }
