@@ -18,6 +18,7 @@ pub mod Tables
 pub mod SameManagers
 pub mod KeptManagers
 pub mod PipeSteps
+pub mod QuietEntries
 pub mod Places
 pub mod Verdicts
 pub mod Ways
