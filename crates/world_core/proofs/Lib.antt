@@ -19,6 +19,7 @@ pub mod SameManagers
 pub mod KeptManagers
 pub mod PipeSteps
 pub mod QuietEntries
+pub mod DuePosts
 pub mod UpEnds
 pub mod Places
 pub mod Verdicts
