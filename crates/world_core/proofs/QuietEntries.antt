@@ -226,6 +226,13 @@ module _ (setup : Setup) (payload : List ℕ) (stage : Stage) (e : Entry) (past 
       let q = calm.quiet in
       same-items payload g s e (bare e) past refl refl p.fabric_is ∙ only-deeds payload stage (bare e) past was-at v.fabric_is q.acts q.up g s
 
+  -- and as the pipes see it
+  pub bare-items : (g s : ℕ) → items payload g s (record { actor = 0; event = e.event; reply = e.reply; posts = [] }) past ≡ deeds payload s e.event e.reply past
+  bare-items g s =
+      let v = shows-bare in
+      let q = calm.quiet in
+      only-deeds payload stage (record { actor = 0; event = e.event; reply = e.reply; posts = [] }) past was-at v.fabric_is q.acts q.up g s
+
   pub group-stays : (s : ℕ) → group_on s (e ∷ past) ≡ group_on s past
   group-stays s = let v = shows-now in ap (λ o. unwrap_or (option_map (λ (link : LinkId). link.group) (option_map (λ (p : Offered). p.link) o)) 0) (v.offer B s)
 
