@@ -19,6 +19,7 @@ pub mod SameManagers
 pub mod KeptManagers
 pub mod PipeSteps
 pub mod QuietEntries
+pub mod WireEntries
 pub mod CallEntries
 pub mod ActedEnds
 pub mod DuePosts
