@@ -29,3 +29,10 @@ pub mod Verdicts
 pub mod Ways
 pub mod EntryItems
 pub mod Parts
+pub mod Feasible
+pub mod AskedPosts
+pub mod Own
+pub mod Agreed
+pub mod Agreement
+pub mod Pipes
+pub mod Heads

@@ -34,7 +34,7 @@ shots-drop : (P : Snapshot → Type 0) (ss : List Snapshot) → EachShot P ss �
 shots-drop P [] e = tt
 shots-drop P (r ∷ ss) e = e.1
 
-abbrev MaySent : (Sent → Type 0) → Option Sent → Type 0
+abbrev pub MaySent : (Sent → Type 0) → Option Sent → Type 0
 MaySent P None = Unit {0}
 MaySent P (Some m) = P m
 

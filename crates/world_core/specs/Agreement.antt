@@ -1,24 +1,28 @@
 -- What the pipes take from the handshake: the one link, the offers and the ends that come up.
 -- A reader learns here which facts of links and sockets the agreement of wires and pipes rests on, and what it says.
-use Rattle.std.specs.Prelude.{◌≡◌, ◌⊎◌, ◌<◌, ◌==◌, ℕ, Bool, true, false, List, [], ◌∷◌, Option, Some, None}
+use Rattle.std.specs.Prelude.{◌≡◌, ◌⊎◌, ◌<◌, ◌==◌, ℕ, Bool, true, false, if◌then◌else◌, nat_lt, List, [], ◌∷◌, Option, Some, None}
 use Rattle.smc_num.specs.declared.Side.{Side}
 use Rattle.smc_num.specs.declared.Side.TheVariants.{A, B}
 use Rattle.smc_num.specs.declared.LinkId.{LinkId}
 use Rattle.smc_num.specs.declared.LinkPhase.TheVariants.{Live}
-use Rattle.smc_num.specs.Names.{other}
+use Rattle.smc_num.specs.Names.{other, head}
+use Rattle.cdc_wire.specs.declared.CdcMessage.{CdcMessage}
 use Rattle.pipe_model.specs.declared.setup.Setup.{Setup}
+use Rattle.pipe_model.specs.declared.sent.Sent.{Sent}
+use Rattle.pipe_model.specs.Snapshot.{spelled}
 use Rattle.pipe_model.specs.declared.entry.Entry.{Entry}
 use Rattle.pipe_model.specs.Words.{element_size}
 use Rattle.pipe_model.specs.History.{Offered, offered}
 use Rattle.pipe_model.specs.Fabric.{latest, loses_group_with}
 use Rattle.pipe_model.specs.Wires.{is_dead, unlanded, uncompleted}
-use Rattle.pipe_model.specs.Pipe.{Fate, half}
-use Rattle.pipe_model.specs.Parts.{IsFeasible}
+use Rattle.pipe_model.specs.Pipe.{Terms, Item, Fate, half, is_near_part}
+use Rattle.pipe_model.specs.Ends.{Half, is_over, to_land, to_complete}
+use Rattle.pipe_model.specs.Parts.{IsFeasible, has_swallow}
 use Rattle.pipe_model.specs.Connections.{comes_up, is_up, fates, items, part, group_on}
 use Rattle.pipe_model.specs.Lending.{terms_of, pipe_of}
 use Rattle.pipe_model.specs.Lawful.{draft}
 use Rattle.world_core.specs.OneLink.{the_link}
-use Rattle.world_core.specs.Wired.{cdcs, IsCarried, keeps_open, EachItem, EachUpOn}
+use Rattle.world_core.specs.Wired.{cdcs, IsCarried, IsOpenEnd, IsOpenSent, IsOnLink}
 
 -- the latest link of the slot: none, or the one link, which is not dead
 abbrev pub IsOnlyLink : List Entry → Type 0
@@ -57,11 +61,42 @@ pub record CarriesNoStranger (x : Side) (past : List Entry) : Type 0 where
   pub landing : (token : ℕ) → ((s : ℕ) → IsElse token (offered (other x) s past)) → cdcs x token (unlanded the_link x past) ≡ []
   pub completing : (token : ℕ) → ((s : ℕ) → IsElse token (offered (other x) s past)) → cdcs x token (uncompleted the_link x past) ≡ []
 
--- that wires and pipes agree: each part can be, with no close in it; the link carries of each end what it has under way, and
--- nothing else
+-- that a part can be, and nothing was swallowed in it
+pub record CanBe (t : Terms) (items : List Item) : Type 0 where
+  pub feasible : IsFeasible t items
+  pub whole : has_swallow t items ≡ false
+
+-- that wires and pipes agree: each part can be, and the one link carries of each end what it has under way, and nothing else
 pub record Agree (setup : Setup) (payload : List ℕ) (past : List Entry) : Type 0 where
-  pub feasible : (s : ℕ) → IsFeasible (terms_of setup) (part payload 1 s past)
-  pub open_items : (s : ℕ) → EachItem keeps_open (part payload 1 s past)
-  pub on_link : (s : ℕ) → EachUpOn the_link (part payload 1 s past)
+  pub part_can_be : (s : ℕ) → CanBe (terms_of setup) (part payload 1 s past)
   pub carried : (x : Side) (s : ℕ) (o : Offered) → offered (other x) s past ≡ Some o → IsCarried (element_size setup) the_link x o.offer.token past (half x (pipe_of setup payload 1 s past))
   pub strange : (x : Side) → CarriesNoStranger x past
+
+-- what holds of the connection of a socket, offered or not, in its own group: its part can be, nothing in it was swallowed, its
+-- ends are open, and an end is up just where that of the socket is
+pub record HasPipe (setup : Setup) (payload : List ℕ) (s : ℕ) (past : List Entry) : Type 0 where
+  pub can_be : CanBe (terms_of setup) (part payload (group_on s past) s past)
+  pub near : is_near_part (terms_of setup) (part payload (group_on s past) s past) ≡ true
+  pub open_end : (x : Side) → IsOpenEnd (half x (pipe_of setup payload (group_on s past) s past))
+  pub not_over : (x : Side) → is_over (half x (pipe_of setup payload (group_on s past) s past)) ≡ false
+  pub up : (x : Side) → (half x (pipe_of setup payload (group_on s past) s past)).up ≡ is_up x s past
+  pub idle : (x : Side) → is_up x s past ≡ false → (half x (pipe_of setup payload (group_on s past) s past)).sent ≡ []
+  pub on_link : (x : Side) → IsOnLink the_link (half x (pipe_of setup payload (group_on s past) s past))
+
+-- that a CDC message on the link spells what an end sent, which is this in the end's own list, under the token of its peer's offer
+pub record Spelling (setup : Setup) (payload : List ℕ) (x : Side) (past : List Entry) (m : CdcMessage) (place : Half → Option Sent) : Type 0 where
+  pub s : ℕ
+  pub offer : Offered
+  pub offered_is : offered (other x) s past ≡ Some offer
+  pub token : m.token ≡ offer.offer.token
+  pub sent : Sent
+  pub sent_is : place (half x (pipe_of setup payload (group_on s past) s past)) ≡ Some sent
+  pub open_sent : IsOpenSent sent
+  pub spells : m ≡ spelled (element_size setup) m.token sent.snapshot
+
+-- the message of an end that lands next, and the one that completes next, where one has landed and not completed
+abbrev pub next_to_land : Half → Option Sent
+next_to_land h = head (to_land h)
+
+abbrev pub next_to_complete : Half → Option Sent
+next_to_complete h = if nat_lt h.completed h.landed then head (to_complete h) else None

@@ -10,7 +10,12 @@
 #![tactic(auto)]
 
 mod connection;
+mod wire_laws;
 mod world;
 
 pub use pipe_model::StepFault;
+pub use wire_laws::{
+    no_end_closes, posts_on_a_wire_stand_in_the_history, what_completes_is_next_to_complete,
+    what_lands_is_next_to_land, wires_and_pipes_agree,
+};
 pub use world::{NewFault, World};
