@@ -1,19 +1,18 @@
 -- What an entry that takes a CLC message makes of the link and of each socket, by its reply and its posts.
 use Rattle.std.proofs.Common.{◌≡◌, ap, arith, inr, refl, subst, sym, ◌∙◌}
-use Rattle.std.proofs.lemmas.Bool.{eqb-true, eq-eqb}
+use Rattle.std.proofs.lemmas.Bool.{eqb-true}
 use Rattle.std.proofs.lemmas.List.{append-nil}
 use Rattle.pipe_model.specs.Keys.{by_post as keys_by_post, Keys, book_act, book_clc, by_act, if_group}
 use Rattle.pipe_model.specs.declared.event.Event.TheVariants.{Clc as ClcEvent}
 use Rattle.pipe_model.specs.declared.reply.Reply.TheVariants.{Established}
-use Rattle.pipe_model.specs.declared.post.Post.TheVariants.{Write, Cdc, Llc, Clc}
-use Rattle.clc_wire.specs.declared.message.ClcMessage.TheVariants.{Proposal as ProposalMessage, Accept as AcceptMessage, Confirm as ConfirmMessage, Decline as DeclineMessage}
+use Rattle.pipe_model.specs.declared.post.Post.TheVariants.{Llc, Clc}
+use Rattle.clc_wire.specs.declared.message.ClcMessage.TheVariants.{Accept as AcceptMessage, Confirm as ConfirmMessage}
 use Rattle.smc_num.specs.Links.{Known}
 use Rattle.pipe_model.specs.Posts.{begins_group_in}
 use Rattle.pipe_model.specs.declared.reply.Reply.{Reply}
 use Rattle.std.specs.List.{cons_option}
 use Rattle.pipe_model.specs.declared.setup.Setup.{Setup}
 use Rattle.pipe_model.specs.declared.entry.Entry.{Entry}
-use Rattle.pipe_model.specs.Messages.{offer}
 use Rattle.std.specs.Option.{option_or}
 use Rattle.llc_wire.specs.declared.LlcMessage.{LlcMessage}
 use Rattle.pipe_model.specs.Ends.{moves}
@@ -102,7 +101,7 @@ pub record AreStill (t : ℕ) (dir : Side) (reply : Reply) (older : List Entry) 
   pub book : (x : Side) (b : List Key) → book_clc x (ClcEvent t dir) reply older b ≡ b
   pub waiting : (link : LinkId) (x : Side) (n : ℕ) → posted_llc link x n 1 posts ≡ []
 
-plus-none : (n : ℕ) → n + 0 ≡ n
+pub plus-none : (n : ℕ) → n + 0 ≡ n
 plus-none n = omega arith
 
 pub link-still : (setup : Setup) (actor t : ℕ) (dir : Side) (reply : Reply) (posts : List Post) (older : List Entry) (stage : Stage) → IsAtStage setup stage older

@@ -1,14 +1,11 @@
 -- Each answer to a CLC message in a world of one link, and where it leads the link and the socket.
 use Rattle.std.proofs.Common.{◌≡◌, refl, subst, sym, ◌∙◌}
-use Rattle.std.proofs.lemmas.Bool.{eqb-true, eq-eqb}
-use Rattle.pipe_model.specs.Keys.{by_post as keys_by_post, offers}
 use Rattle.pipe_model.specs.declared.event.Event.TheVariants.{Clc as ClcEvent}
 use Rattle.pipe_model.specs.declared.reply.SentKind.TheVariants.{Accept as AcceptSent, Confirm as ConfirmSent, ConfirmLink as LinkSent}
 use Rattle.pipe_model.specs.declared.reply.Reply.TheVariants.{Established, FellBack, Sent, Declined}
-use Rattle.pipe_model.specs.declared.post.Post.TheVariants.{Write, Cdc, Llc, Clc}
-use Rattle.clc_wire.specs.declared.message.ClcMessage.TheVariants.{Proposal as ProposalMessage, Accept as AcceptMessage, Confirm as ConfirmMessage, Decline as DeclineMessage}
+use Rattle.pipe_model.specs.declared.post.Post.TheVariants.{Llc, Clc}
+use Rattle.clc_wire.specs.declared.message.ClcMessage.TheVariants.{Accept as AcceptMessage, Confirm as ConfirmMessage, Decline as DeclineMessage}
 use Rattle.pipe_model.specs.Connections.{after_event, comes_up}
-use Rattle.pipe_model.specs.Parts.{actor}
 use Rattle.smc_num.specs.declared.Side.TheVariants.{A, B}
 use Rattle.pipe_model.specs.Messages.{offer}
 use Rattle.pipe_model.specs.Fallback.{clc_in, takes_clc}

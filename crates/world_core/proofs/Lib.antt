@@ -2,9 +2,12 @@ pub mod ClcMoves
 pub mod DataPosts
 pub mod Handshakes
 pub mod InHistory
+pub mod Landings
+pub mod LinkMoves
 pub mod Lists
 pub mod Moves
 pub mod Offers
+pub mod Openings
 pub mod QuietEvents
 pub mod Sound
 pub mod NewManagers
@@ -25,6 +28,8 @@ pub mod ActedEnds
 pub mod DuePosts
 pub mod UpEnds
 pub mod Places
+pub mod TakenAnswers
+pub mod TakenMessages
 pub mod Verdicts
 pub mod Ways
 pub mod EntryItems
