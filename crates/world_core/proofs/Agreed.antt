@@ -199,7 +199,7 @@ module _ (setup : Setup) (payload : List ℕ) (e : Entry) (past : List Entry) (b
           let place = first-stands past (uncompleted the_link x past) l.first l.rest (uncompleted-stand the_link x past) l.waiting in
           let b = next-completes (element_size setup) the_link x o.offer.token e past (Now x s) (Then x s) posts-on (mark x s) (agree.carried x s o f) l m n in
           let g = gone-over x s _ _ (Completes x ∷ Below s) (items-by s (Completes x ∷ []) (d ∙ own-some (Completes x) x s l.first.at past o l.first.post f place ∙ ap (λ c. if c then Completes x ∷ [] else []) i))
-              (gone-completes T x (Below s) (P s) (calm s) b.x b.others (mark x s) b.is) in
+          (gone-completes T x (Below s) (P s) (calm s) b.x b.others (mark x s) b.is) in
           carried-completes (element_size setup) the_link x o.offer.token e past (Now x s) (Then x s) posts-on (mark x s) (agree.carried x s o f) l m n g (news-own x s o f _ _ g) (has-returning (Now x s) b.x b.others b.is)
       carried-completes-by l d (IsNot i n) =
           let place = first-stands past (uncompleted the_link x past) l.first l.rest (uncompleted-stand the_link x past) l.waiting in
@@ -209,7 +209,7 @@ module _ (setup : Setup) (payload : List ℕ) (e : Entry) (past : List Entry) (b
       carried-by : Way payload the_link x e past → Goal
       carried-by (inl w) =
           let passes = subst (λ is. EachItem (passes_by x) is) (sym (items-are payload 1 s e past))
-              (each-append (passes_by x) (deeds payload s e.event e.reply past) (Below s) (w.1 s) (each-more is_fate_or_up (passes_by x) (fate-or-up-passes x) (Below s) (calm s))) in
+          (each-append (passes_by x) (deeds payload s e.event e.reply past) (Below s) (w.1 s) (each-more is_fate_or_up (passes_by x) (fate-or-up-passes x) (Below s) (calm s))) in
           let g = all-passed-by T x (I s) (P s) passes in
           carried-stays (element_size setup) the_link x o.offer.token e past (Now x s) (Then x s) posts-on (mark x s) (agree.carried x s o f) g (news-own x s o f _ _ g) w.0
       carried-by (inr (inl w)) = let l = w.0 in carried-lands-by l (w.1 s) (is-or-not x o.offer.token l.first.post)
@@ -260,8 +260,8 @@ module _ (setup : Setup) (payload : List ℕ) (e : Entry) (past : List Entry) (b
     can-by s (inl v) (inl w) =
         subst (λ is. CanBe T (is ++ P s)) (sym (items-are payload 1 s e past))
         (can-more T (deeds payload s e.event e.reply past ++ Below s) (P s)
-            (each-append is_no_message (deeds payload s e.event e.reply past) (Below s) (each-both (deeds payload s e.event e.reply past) (v.1 s) (w.1 s)) (each-more is_fate_or_up is_no_message fate-or-up-no-message (Below s) (calm s)))
-            (agree.part_can_be s))
+        (each-append is_no_message (deeds payload s e.event e.reply past) (Below s) (each-both (deeds payload s e.event e.reply past) (v.1 s) (w.1 s)) (each-more is_fate_or_up is_no_message fate-or-up-no-message (Below s) (calm s)))
+        (agree.part_can_be s))
     can-by s (inr (inl v)) w = can-lands-by A s v.0 (v.1 s) (offered B s past) refl
     can-by s (inr (inr v)) w = can-completes-by A s v.0 (v.1 s) (offered B s past) refl
     can-by s (inl v) (inr (inl w)) = can-lands-by B s w.0 (w.1 s) (offered A s past) refl

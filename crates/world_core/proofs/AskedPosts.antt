@@ -89,8 +89,8 @@ of-add x p ks qp (AddSeen k) = tt
 of-loss : (x : Side) (k : ℕ) (own : Bool) (p : Peer) (before : Flow) (past : List Entry) → EachPost IsNoCdc (loss_posts x k own p before past)
 of-loss x k own p before past = either (p.group == 0) _ _ tt
     (append (drop_posts x k own p ++ (if resends_key k before then key_again x p (keys_of x past).keys (deleting_rmbs x past) before.key ∷ [] else [])) _
-        (append (drop_posts x k own p) _ (either (own && not (is_dropping k p.flow)) _ _ (tt, tt) tt) (either (resends_key k before) _ _ (of-key x p (keys_of x past).keys (deleting_rmbs x past) before.key, tt) tt))
-        (either (resends_add k before.link) _ _ (of-add x p (keys_of x past) _ before.link) tt))
+    (append (drop_posts x k own p) _ (either (own && not (is_dropping k p.flow)) _ _ (tt, tt) tt) (either (resends_key k before) _ _ (of-key x p (keys_of x past).keys (deleting_rmbs x past) before.key, tt) tt))
+    (either (resends_add k before.link) _ _ (of-add x p (keys_of x past) _ before.link) tt))
 
 of-step : (setup : Setup) (x : Side) (on : LinkId) (m : LlcMessage) (past : List Entry) (step : FlowStep) → EachPost IsNoCdc (step_posts setup x on m past step)
 of-step setup x on m past Skip = tt

@@ -86,14 +86,14 @@ module _ (setup : Setup) (payload : List ℕ) (regions : List Buffer) (stage : S
         let s : ℕ = end.s in
         let items : List Item = part payload (group_on s past) s past in
         let one : deeds payload s e.event e.reply past ≡ Calls x call ∷ [] =
-            is_call s ∙ (ap (λ b. if b && is_up x s past then Calls x call ∷ [] else []) (eq-eqb s s refl) ∙ ap (λ b. if b then Calls x call ∷ [] else []) up) in
+        is_call s ∙ (ap (λ b. if b && is_up x s past then Calls x call ∷ [] else []) (eq-eqb s s refl) ∙ ap (λ b. if b then Calls x call ∷ [] else []) up) in
         let others : (t : ℕ) → (t == s) ≡ false → deeds payload t e.event e.reply past ≡ [] = λ t n. is_call t ∙ ap (λ b. if b && is_up x t past then Calls x call ∷ [] else []) n in
         let kept = call-sent (element_size setup) call (end_of setup payload x s past) transfer in
         let f = up-facts setup payload stage x s past calm.world knows up in
         let own : after_at setup payload regions stage e past calm knows x s ≡ settle setup.depth (calls (element_size setup) call (end_of setup payload x s past)) =
-            ap (λ (is : List Item). half x (pipe (terms_of setup) (is ++ items))) one ∙ called (terms_of setup) items x call in
+        ap (λ (is : List Item). half x (pipe (terms_of setup) (is ++ items))) one ∙ called (terms_of setup) items x call in
         let theirs : after_at setup payload regions stage e past calm knows (other x) s ≡ end_of setup payload (other x) s past =
-            ap (λ (is : List Item). half (other x) (pipe (terms_of setup) (is ++ items))) one ∙ called-other (terms_of setup) items x call in
+        ap (λ (is : List Item). half (other x) (pipe (terms_of setup) (is ++ items))) one ∙ called-other (terms_of setup) items x call in
         record {
           own = one-acted setup payload regions stage e past calm knows s known others x (λ h. calls (element_size setup) call h) own;
           theirs = one-kept setup payload regions stage e past calm knows s known others (other x) theirs;

@@ -86,8 +86,8 @@ socket-apart setup actor t dir reply posts older s k e a = record {
   early = λ x. early-none x s t dir reply (early_at k x) e;
   offer = λ x. ap (λ (os : List Offered). option_or (head os) (offered_at k x)) (a.offers x);
   messages = λ x.
-    ap (λ b. drop (if b && (same_side x dir && takes_message reply) then 1 else 0) (untaken_at setup k x) ++ filter_map (clc_in x s) posts) e
-    ∙ (ap (λ (ms : List ClcMessage). untaken_at setup k x ++ ms) (a.messages x) ∙ append-nil (untaken_at setup k x));
+      ap (λ b. drop (if b && (same_side x dir && takes_message reply) then 1 else 0) (untaken_at setup k x) ++ filter_map (clc_in x s) posts) e
+      ∙ (ap (λ (ms : List ClcMessage). untaken_at setup k x ++ ms) (a.messages x) ∙ append-nil (untaken_at setup k x));
   opened = refl;
   raw = refl;
   offers = λ o. o;

@@ -79,8 +79,8 @@ pub connections-data : (setup : Setup) (payload : List ℕ) (e : Entry) (past : 
 connections-data setup payload e past =
     data-flat (λ s. pipe_posts setup payload s e past)
     (λ s. data-append (end_posts setup payload A s e past) (end_posts setup payload B s e past)
-        (data-flat (sent_posts (element_size setup) A (offered B s past) (e ∷ past)) (data-sent (element_size setup) A (offered B s past) (e ∷ past)) (posts_of (terms_of setup) A (items payload (group_on s past) s e past) (part payload (group_on s past) s past)))
-        (data-flat (sent_posts (element_size setup) B (offered A s past) (e ∷ past)) (data-sent (element_size setup) B (offered A s past) (e ∷ past)) (posts_of (terms_of setup) B (items payload (group_on s past) s e past) (part payload (group_on s past) s past))))
+    (data-flat (sent_posts (element_size setup) A (offered B s past) (e ∷ past)) (data-sent (element_size setup) A (offered B s past) (e ∷ past)) (posts_of (terms_of setup) A (items payload (group_on s past) s e past) (part payload (group_on s past) s past)))
+    (data-flat (sent_posts (element_size setup) B (offered A s past) (e ∷ past)) (data-sent (element_size setup) B (offered A s past) (e ∷ past)) (posts_of (terms_of setup) B (items payload (group_on s past) s e past) (part payload (group_on s past) s past))))
     (offered_sockets setup past)
 
 -- what holds of a write and of a CDC message holds of them

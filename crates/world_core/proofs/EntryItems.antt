@@ -107,7 +107,7 @@ pub below-calm : (group s : ℕ) (e : Entry) (past : List Entry) → GoesOn e pa
 below-calm group s e past g =
     let u = each-append is_fate_or_up (ups A s e past) (ups B s e past) (one-up A (comes_up A s e past)) (one-up B (comes_up B s e past)) in
     let f = each-more is_a_fate is_fate_or_up fate-either (fates A group e past ++ fates B group e past)
-        (each-append is_a_fate (fates A group e past) (fates B group e past) (only-fates A group (table_of A past) (table_of A (e ∷ past))) (only-fates B group (table_of B past) (table_of B (e ∷ past)))) in
+    (each-append is_a_fate (fates A group e past) (fates B group e past) (only-fates A group (table_of A past) (table_of A (e ∷ past))) (only-fates B group (table_of B past) (table_of B (e ∷ past)))) in
     subst (λ is. EachItem is_fate_or_up is) (sym (below-is group s e past g))
     (each-append is_fate_or_up (reverse (ups A s e past ++ ups B s e past)) (reverse (fates A group e past ++ fates B group e past)) (each-reverse is_fate_or_up (ups A s e past ++ ups B s e past) u) (each-reverse is_fate_or_up (fates A group e past ++ fates B group e past) f))
 
@@ -167,8 +167,8 @@ pub below-on : (group s : ℕ) (e : Entry) (past : List Entry) → GoesOn e past
 below-on group s e past g =
     subst (λ is. EachUpOn the_link is) (sym (below-is group s e past g))
     (on-append the_link (reverse (ups A s e past ++ ups B s e past)) (reverse (fates A group e past ++ fates B group e past))
-        (on-ups A B the_link (comes_up A s e past) (comes_up B s e past) (λ l q. let u = g.ups A s l q in u.0) (λ l q. let u = g.ups B s l q in u.0))
-        (on-none the_link (reverse (fates A group e past ++ fates B group e past)) (fates-no-up group e past)))
+    (on-ups A B the_link (comes_up A s e past) (comes_up B s e past) (λ l q. let u = g.ups A s l q in u.0) (λ l q. let u = g.ups B s l q in u.0))
+    (on-none the_link (reverse (fates A group e past ++ fates B group e past)) (fates-no-up group e past)))
 
 pub deeds-no-up : (setup : Setup) (payload : List ℕ) (s : ℕ) (event : Event) (reply : Reply) (past : List Entry) → IsBuilt setup (length payload) event → EachItem is_no_up (deeds payload s event reply past)
 deeds-no-up setup payload s (Open t) reply past b = tt

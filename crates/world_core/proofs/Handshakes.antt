@@ -22,7 +22,6 @@ use Rattle.smc_num.specs.Names.{head}
 use Rattle.pipe_model.specs.History.{Offered, offer_in, offered}
 use Rattle.clc_wire.specs.declared.refusal.Refusal.{Refusal}
 use Rattle.world_core.specs.Sockets.{AcceptFallen, AcceptRefused, Accepted, AreOffers, AwaitsLink, Confirmed, Fallen, FirstAccepted, FirstConfirmed, IsOffer, Proposed, Refused, Socket, early_at, is_first, offered_at, on_link, untaken_at, up_at, Up}
-
 use Rattle.std.specs.Prelude.{List, None, Some, [], drop, false, filter_map, if◌then◌else◌, is_some, true, ℕ, ◌++◌, ◌==◌, ◌||◌, ◌∷◌}
 use Rattle.smc_num.specs.declared.Side.{Side}
 

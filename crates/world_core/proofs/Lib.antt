@@ -22,6 +22,8 @@ pub mod SameManagers
 pub mod KeptManagers
 pub mod PipeSteps
 pub mod QuietEntries
+pub mod KnownEntries
+pub mod QuietManagers
 pub mod WireEntries
 pub mod CallEntries
 pub mod ActedEnds

@@ -49,21 +49,21 @@ pub link-moves : (setup : Setup) (d : Entry) (older : List Entry) (from to : Sta
 link-moves setup d older from to m at = record {
   path = ap (λ b. sets_path 1 d.event d.reply b) at.path ∙ m.path;
   uncut =
-    ap (λ b. (b || ((is_latest the_link (d ∷ older) && not (is_latest the_link older)) && not (path_up 1 older))) || is_cut the_link older) m.cuts_none
-    ∙ (ap (λ b. ((is_latest the_link (d ∷ older) && not (is_latest the_link older)) && not b) || is_cut the_link older) at.path
-    ∙ (ap (λ b. b || is_cut the_link older) (and-false (is_latest the_link (d ∷ older) && not (is_latest the_link older))) ∙ at.uncut));
+      ap (λ b. (b || ((is_latest the_link (d ∷ older) && not (is_latest the_link older)) && not (path_up 1 older))) || is_cut the_link older) m.cuts_none
+      ∙ (ap (λ b. ((is_latest the_link (d ∷ older) && not (is_latest the_link older)) && not b) || is_cut the_link older) at.path
+      ∙ (ap (λ b. b || is_cut the_link older) (and-false (is_latest the_link (d ∷ older) && not (is_latest the_link older))) ∙ at.uncut));
   groups = ap (λ n. n + length (filter begins_group_in d.posts)) at.groups ∙ m.groups;
   fabric_is = now;
   keys = λ x.
-    ap (λ (f : Fabric). if_group (peer x f).group (fold (keys_by_post x (peer x f).table) (by_act x (flow_of x older) (peer x f).table (act_in x d older) (keys_of x older)) d.posts)) now
-    ∙ (ap (λ (f : Fabric). if_group (peer x (fabric_at to)).group (fold (keys_by_post x (peer x (fabric_at to)).table) (by_act x (peer x f).flow (peer x (fabric_at to)).table (act_in x d older) (keys_of x older)) d.posts)) at.fabric_is
-    ∙ (ap (λ (ks : Keys). if_group (peer x (fabric_at to)).group (fold (keys_by_post x (peer x (fabric_at to)).table) (by_act x (peer x (fabric_at from)).flow (peer x (fabric_at to)).table (act_in x d older) ks) d.posts)) (at.keys x)
-    ∙ m.keys x));
+      ap (λ (f : Fabric). if_group (peer x f).group (fold (keys_by_post x (peer x f).table) (by_act x (flow_of x older) (peer x f).table (act_in x d older) (keys_of x older)) d.posts)) now
+      ∙ (ap (λ (f : Fabric). if_group (peer x (fabric_at to)).group (fold (keys_by_post x (peer x (fabric_at to)).table) (by_act x (peer x f).flow (peer x (fabric_at to)).table (act_in x d older) (keys_of x older)) d.posts)) at.fabric_is
+      ∙ (ap (λ (ks : Keys). if_group (peer x (fabric_at to)).group (fold (keys_by_post x (peer x (fabric_at to)).table) (by_act x (peer x (fabric_at from)).flow (peer x (fabric_at to)).table (act_in x d older) ks) d.posts)) (at.keys x)
+      ∙ m.keys x));
   book = λ x.
-    ap (λ (f : Fabric). if (peer x f).group == 0 then [] else book_clc x d.event d.reply older (book_act (table_of x older) (act_in x d older) (book_of x older))) now
-    ∙ (ap (λ (f : Fabric). if (peer x (fabric_at to)).group == 0 then [] else book_clc x d.event d.reply older (book_act (peer x f).table (act_in x d older) (book_of x older))) at.fabric_is
-    ∙ (ap (λ (b : List Key). if (peer x (fabric_at to)).group == 0 then [] else book_clc x d.event d.reply older (book_act (peer x (fabric_at from)).table (act_in x d older) b)) (at.book x)
-    ∙ m.book x));
+      ap (λ (f : Fabric). if (peer x f).group == 0 then [] else book_clc x d.event d.reply older (book_act (table_of x older) (act_in x d older) (book_of x older))) now
+      ∙ (ap (λ (f : Fabric). if (peer x (fabric_at to)).group == 0 then [] else book_clc x d.event d.reply older (book_act (peer x f).table (act_in x d older) (book_of x older))) at.fabric_is
+      ∙ (ap (λ (b : List Key). if (peer x (fabric_at to)).group == 0 then [] else book_clc x d.event d.reply older (book_act (peer x (fabric_at from)).table (act_in x d older) b)) (at.book x)
+      ∙ m.book x));
   waiting = λ x. filter_map-append llc_in (drop (if_latest the_link older (leaves x 1 d.event d.reply)) (unlanded the_link x older)) (filter (λ c. is_on the_link x c.post) (numbered (next_number older) 1 d.posts)) ∙ m.waiting x;
   elsewhere = λ link x apart. filter_map-append llc_in (drop (if_latest link older (leaves x link.slot d.event d.reply)) (unlanded link x older)) (filter (λ c. is_on link x c.post) (numbered (next_number older) 1 d.posts)) ∙ m.elsewhere link x apart;
 }
@@ -109,8 +109,8 @@ pub socket-moves : (setup : Setup) (d : Entry) (older : List Entry) (s : ℕ) (f
 socket-moves setup d older s from to keeps m at = record {
   up = λ x. ap (λ b. is_some (comes_up x s d older) || b) (at.up x) ∙ m.up x;
   early = λ x.
-    ap (λ b. after_loss b (group_on s older) (after_event x s d.event d.reply (early_state x s older))) (keeps x (group_on s older))
-    ∙ (ap (λ state. after_event x s d.event d.reply state) (at.early x) ∙ m.early x);
+      ap (λ b. after_loss b (group_on s older) (after_event x s d.event d.reply (early_state x s older))) (keeps x (group_on s older))
+      ∙ (ap (λ state. after_event x s d.event d.reply state) (at.early x) ∙ m.early x);
   offer = λ x. ap (λ o. option_or (head (filter_map (offer_in x s) d.posts)) o) (at.offer x) ∙ m.offer x;
   messages = λ x. ap (λ (ms : List ClcMessage). drop (if takes_clc x s d.event d.reply then 1 else 0) ms ++ filter_map (clc_in x s) d.posts) (at.messages x) ∙ m.messages x;
   opened = ap (λ b. opens s d.event d.reply || b) at.opened ∙ m.opened;
@@ -170,40 +170,40 @@ pub shows-quiet : (setup : Setup) (stage : Stage) (d : Entry) (older : List Entr
 shows-quiet setup stage d older at q = record {
   path = q.path (path_up 1 older);
   cut = λ link.
-    ap (λ b. (b || ((is_latest link (d ∷ older) && not (is_latest link older)) && not (path_up link.slot older))) || is_cut link older) (q.cuts_none link)
-    ∙ (ap (λ (f : Fabric). ((passes (same_link link) (link_at link.slot f.latest) && not (is_latest link older)) && not (path_up link.slot older)) || is_cut link older) same
-    ∙ ap (λ b. b || is_cut link older) (not-new (is_latest link older) (not (path_up link.slot older))));
+      ap (λ b. (b || ((is_latest link (d ∷ older) && not (is_latest link older)) && not (path_up link.slot older))) || is_cut link older) (q.cuts_none link)
+      ∙ (ap (λ (f : Fabric). ((passes (same_link link) (link_at link.slot f.latest) && not (is_latest link older)) && not (path_up link.slot older)) || is_cut link older) same
+      ∙ ap (λ b. b || is_cut link older) (not-new (is_latest link older) (not (path_up link.slot older))));
   groups = ap (λ (ps : List Post). groups_begun older + length (filter begins_group_in ps)) q.posts ∙ nothing (groups_begun older);
   fabric_is = same;
   offer = λ x s. ap (λ (ps : List Post). option_or (head (filter_map (offer_in x s) ps)) (offered x s older)) q.posts;
   messages = λ x s.
-    ap (λ (ps : List Post). drop (if takes_clc x s d.event d.reply then 1 else 0) (untaken x s older) ++ filter_map (clc_in x s) ps) q.posts
-    ∙ (ap (λ b. drop (if b then 1 else 0) (untaken x s older) ++ []) (q.takes x s) ∙ append-nil (untaken x s older));
+      ap (λ (ps : List Post). drop (if takes_clc x s d.event d.reply then 1 else 0) (untaken x s older) ++ filter_map (clc_in x s) ps) q.posts
+      ∙ (ap (λ b. drop (if b then 1 else 0) (untaken x s older) ++ []) (q.takes x s) ∙ append-nil (untaken x s older));
   lent = λ x. ap (λ (ps : List Post). filter_map (lends x) ps ++ lendings x older) q.posts;
   keys = λ x.
-    ap (λ (f : Fabric). if_group (peer x f).group (fold (keys_by_post x (peer x f).table) (by_act x (flow_of x older) (peer x f).table (act_in x d older) (keys_of x older)) d.posts)) same
-    ∙ (ap (λ (ps : List Post). if_group (group_of x older) (fold (keys_by_post x (table_of x older)) (by_act x (flow_of x older) (table_of x older) (act_in x d older) (keys_of x older)) ps)) q.posts
-    ∙ (ap (λ a. if_group (group_of x older) (by_act x (flow_of x older) (table_of x older) a (keys_of x older))) (q.acts x)
-    ∙ (ap (λ (f : Fabric). if_group (peer x f).group (keys_of x older)) at.fabric_is
-    ∙ (ap (λ ks. if_group (peer x (fabric_at stage)).group ks) (at.keys x) ∙ (has-group x stage ∙ sym (at.keys x))))));
+      ap (λ (f : Fabric). if_group (peer x f).group (fold (keys_by_post x (peer x f).table) (by_act x (flow_of x older) (peer x f).table (act_in x d older) (keys_of x older)) d.posts)) same
+      ∙ (ap (λ (ps : List Post). if_group (group_of x older) (fold (keys_by_post x (table_of x older)) (by_act x (flow_of x older) (table_of x older) (act_in x d older) (keys_of x older)) ps)) q.posts
+      ∙ (ap (λ a. if_group (group_of x older) (by_act x (flow_of x older) (table_of x older) a (keys_of x older))) (q.acts x)
+      ∙ (ap (λ (f : Fabric). if_group (peer x f).group (keys_of x older)) at.fabric_is
+      ∙ (ap (λ ks. if_group (peer x (fabric_at stage)).group ks) (at.keys x) ∙ (has-group x stage ∙ sym (at.keys x))))));
   book = λ x.
-    ap (λ (f : Fabric). if (peer x f).group == 0 then [] else book_clc x d.event d.reply older (book_act (table_of x older) (act_in x d older) (book_of x older))) same
-    ∙ (ap (λ b. if group_of x older == 0 then [] else b) (q.book x (book_act (table_of x older) (act_in x d older) (book_of x older)))
-    ∙ (ap (λ a. if group_of x older == 0 then [] else book_act (table_of x older) a (book_of x older)) (q.acts x)
-    ∙ (ap (λ (f : Fabric). if (peer x f).group == 0 then [] else book_of x older) at.fabric_is
-    ∙ (ap (λ (b : List Key). if (peer x (fabric_at stage)).group == 0 then [] else b) (at.book x) ∙ (has-book x stage ∙ sym (at.book x))))));
+      ap (λ (f : Fabric). if (peer x f).group == 0 then [] else book_clc x d.event d.reply older (book_act (table_of x older) (act_in x d older) (book_of x older))) same
+      ∙ (ap (λ b. if group_of x older == 0 then [] else b) (q.book x (book_act (table_of x older) (act_in x d older) (book_of x older)))
+      ∙ (ap (λ a. if group_of x older == 0 then [] else book_act (table_of x older) a (book_of x older)) (q.acts x)
+      ∙ (ap (λ (f : Fabric). if (peer x f).group == 0 then [] else book_of x older) at.fabric_is
+      ∙ (ap (λ (b : List Key). if (peer x (fabric_at stage)).group == 0 then [] else b) (at.book x) ∙ (has-book x stage ∙ sym (at.book x))))));
   up = λ x s.
-    ap (λ o. is_some (option_or o (option_and_then (λ act. confirmed_by (offered B s older) act.link act.step) (act_in x d older))) || is_up x s older) (q.up x s)
-    ∙ ap (λ a. is_some (option_and_then (λ (act : Act). confirmed_by (offered B s older) act.link act.step) a) || is_up x s older) (q.acts x);
+      ap (λ o. is_some (option_or o (option_and_then (λ act. confirmed_by (offered B s older) act.link act.step) (act_in x d older))) || is_up x s older) (q.up x s)
+      ∙ ap (λ a. is_some (option_and_then (λ (act : Act). confirmed_by (offered B s older) act.link act.step) a) || is_up x s older) (q.acts x);
   early = λ x s.
-    ap (λ (f : Fabric). after_loss (not (group_on s older == 0) && ((group_of x older == group_on s older) && not ((peer x f).group == group_on s older))) (group_on s older) (after_event x s d.event d.reply (early_state x s older))) same
-    ∙ (ap (λ b. after_loss b (group_on s older) (after_event x s d.event d.reply (early_state x s older))) (no-loss (group_on s older) (group_of x older) (group_of x older) (inr refl))
-    ∙ q.early x s (early_state x s older));
+      ap (λ (f : Fabric). after_loss (not (group_on s older == 0) && ((group_of x older == group_on s older) && not ((peer x f).group == group_on s older))) (group_on s older) (after_event x s d.event d.reply (early_state x s older))) same
+      ∙ (ap (λ b. after_loss b (group_on s older) (after_event x s d.event d.reply (early_state x s older))) (no-loss (group_on s older) (group_of x older) (group_of x older) (inr refl))
+      ∙ q.early x s (early_state x s older));
   raw = λ s. ap (λ b. b || is_raw s older) (q.raw s);
   opened = λ s. ap (λ b. b || is_opened s older) (q.opened s);
   waiting = λ link x.
-    ap (λ (ps : List Post). filter_map llc_in (drop (if_latest link older (leaves x link.slot d.event d.reply)) (unlanded link x older) ++ filter (λ c. is_on link x c.post) (numbered (next_number older) 1 ps))) q.posts
-    ∙ (ap (λ (cs : List Placed). filter_map llc_in cs) (append-nil (drop (if_latest link older (leaves x link.slot d.event d.reply)) (unlanded link x older))) ∙ q.waiting link x);
+      ap (λ (ps : List Post). filter_map llc_in (drop (if_latest link older (leaves x link.slot d.event d.reply)) (unlanded link x older) ++ filter (λ c. is_on link x c.post) (numbered (next_number older) 1 ps))) q.posts
+      ∙ (ap (λ (cs : List Placed). filter_map llc_in cs) (append-nil (drop (if_latest link older (leaves x link.slot d.event d.reply)) (unlanded link x older))) ∙ q.waiting link x);
 }
   where
     same : fabric (d ∷ older) ≡ fabric older

@@ -80,9 +80,9 @@ module _ (setup : Setup) (payload : List ℕ) (x : Side) (past : List Entry) (on
   unlent-free none le = (
     record { rmb = 1; index = 1 },
     is-free (record { rmb = 1; index = 1 }) (
-      ap (λ (ps : List Place). head ps) free-are
-      ∙ (ap (λ (ls : List Lending). head (filter (is_free (lent_places ls)) (elements-from 1 (elements_of setup x)))) none ∙ all-free (elements_of setup x) le)
-    ),
+        ap (λ (ps : List Place). head ps) free-are
+        ∙ (ap (λ (ls : List Lending). head (filter (is_free (lent_places ls)) (elements-from 1 (elements_of setup x)))) none ∙ all-free (elements_of setup x) le)
+        ),
   )
 
 -- a side without lendings has lent nothing

@@ -46,9 +46,9 @@ pub world-moves : (setup : Setup) (d : Entry) (older : List Entry) (from to : St
 world-moves setup d older from to w moves keeps sockets unlent = record {
   link = now;
   sockets = λ s.
-    let h = w.sockets s in
-    let m = sockets s h.at h.stands h.suits_is in
-    record { at = m.0; stands = socket-moves setup d older s h.at m.0 (keeps-group setup d older from to w.link now keeps) m.1 h.stands; suits_is = m.2 };
+      let h = w.sockets s in
+      let m = sockets s h.at h.stands h.suits_is in
+      record { at = m.0; stands = socket-moves setup d older s h.at m.0 (keeps-group setup d older from to w.link now keeps) m.1 h.stands; suits_is = m.2 };
   unlent = λ x none. let u = unlent x none in ap (λ (ls : List Lending). ls ++ lendings x older) u.1 ∙ w.unlent x u.0;
 }
   where
@@ -169,7 +169,7 @@ module _ (setup : Setup) (actor t : ℕ) (older : List Entry) where
         stage = stage;
         world = open-world stage Opened (proposal_post setup t ∷ []) Proposed w new
             (open-link stage Opened (proposal_post setup t ∷ []) w.link refl
-              (by-side (λ x. (table : List Known) (ks : Keys) → fold (keys_by_post x table) ks (proposal_post setup t ∷ []) ≡ ks) (λ table ks. refl) (λ table ks. refl))
-              (λ link x n. clc-waits-not link x n A t None (ProposalMessage (proposal setup))))
+            (by-side (λ x. (table : List Known) (ks : Keys) → fold (keys_by_post x table) ks (proposal_post setup t ∷ []) ≡ ks) (λ table ks. refl) (λ table ks. refl))
+            (λ link x n. clc-waits-not link x n A t None (ProposalMessage (proposal setup))))
             (opens-socket (eq-eqb t t refl)) refl refl (λ s. clc-is-apart s t A None (ProposalMessage (proposal setup))) (lent-none stage (proposal_post setup t ∷ []) refl refl);
       })

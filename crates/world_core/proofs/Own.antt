@@ -111,5 +111,5 @@ module _ (t : Terms) (x : Side) (below items : List Item) (calm : EachItem is_fa
       let g = gone-below in
       let k : Half = half x (pipe t (below ++ items)) in
       let q = gone-on (half x (pipe t items)) k (half x (step t (Completes x) (pipe t (below ++ items)))) _ _ _ _ g
-          (completes-one t x (pipe t (below ++ items)) m (returning-head (k.landed - k.completed) (to_complete k) rest m (returning-below mark ∙ e)) (later-below (has-returning (half x (pipe t items)) m rest e))) in
+      (completes-one t x (pipe t (below ++ items)) m (returning-head (k.landed - k.completed) (to_complete k) rest m (returning-below mark ∙ e)) (later-below (has-returning (half x (pipe t items)) m rest e))) in
       record { landed_is = q.landed_is ∙ g.landed_is; completed_is = q.completed_is ∙ ap (λ n. n + 1) g.completed_is; more = q.more; sent_is = q.sent_is }

@@ -198,4 +198,4 @@ module _ (link : LinkId) where
   pub pipes-on : (setup : Setup) (payload : List ℕ) (e : Entry) (past : List Entry) → ((x : Side) (s : ℕ) → EachOf (λ m. m.link ≡ link) (given setup payload e past x s)) → EachPost (IsCdcOn link) (connection_posts setup payload e past)
   pipes-on setup payload e past f = on-flat (λ s. pipe_posts setup payload s e past) (offered_sockets setup past)
       (λ s. on-append (end_posts setup payload A s e past) (end_posts setup payload B s e past)
-          (on-sent (element_size setup) A (offered B s past) (e ∷ past) (given setup payload e past A s) (f A s)) (on-sent (element_size setup) B (offered A s past) (e ∷ past) (given setup payload e past B s) (f B s)))
+      (on-sent (element_size setup) A (offered B s past) (e ∷ past) (given setup payload e past A s) (f A s)) (on-sent (element_size setup) B (offered A s past) (e ∷ past) (given setup payload e past B s) (f B s)))

@@ -67,7 +67,7 @@ module _ (setup : Setup) (payload : List ℕ) where
       let d = no-deeds setup payload s e.event e.reply past m.built (λ x. up-offered setup payload x s past r.1 (none (other x))) none in
       subst (λ is. CanBe (terms_of setup) (is ++ part payload group s past)) (sym (items-are payload group s e past ∙ ap (λ is. is ++ below group s e past) d))
       (can-more (terms_of setup) (below group s e past) (part payload group s past) (each-more is_fate_or_up is_no_message fate-or-up-no-message (below group s e past) (below-calm group s e past g))
-          (can-unoffered group s past p.0 p.3 r.1 before))
+      (can-unoffered group s past p.0 p.3 r.1 before))
 
   can-by : (s : ℕ) (past : List Entry) (n : ℕ) → IsPlayed setup payload past n → IsShaken setup past → (o : Option Offered) → offered B s past ≡ o → CanBe (terms_of setup) (part payload (group_on s past) s past)
   can-by s past n p h None f = can-unoffered (group_on s past) s past n p h f

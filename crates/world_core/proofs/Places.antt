@@ -63,8 +63,7 @@ new-ones e past before [] first p f = tt
 new-ones e past before (post ∷ posts) first p f =
     let j : length (e ∷ past) - (length past + 1) ≡ 0 = omega arith in
     let i : first - 1 ≡ length before = omega (arith, f) in
-    let n : length (before ++ post ∷ []) ≡ length before + 1 = length-append before (post ∷ []) in
-    (
+    let n : length (before ++ post ∷ []) ≡ length before + 1 = length-append before (post ∷ []) in (
       record {
         within = omega arith;
         is = ap (λ k. option_and_then (λ (g : Entry). slice_get g.posts (first - 1)) (slice_get (e ∷ past) k)) j ∙ ap (λ k. slice_get e.posts k) i ∙ ap (λ ps. slice_get ps (length before)) p ∙ get-behind before post posts;

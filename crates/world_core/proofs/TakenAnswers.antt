@@ -60,7 +60,7 @@ module _ (setup : Setup) (one : IsOneLink setup) (payload : List ℕ) (actor t :
       let c : Offer = new_offer setup payload A true the_link older in
       let j : IsOffer setup A true c = new-is-offer setup payload A true (Begun t) older free.0 w.link free.1 in
       let given : posts ≡ Clc A t (Some the_link) (ConfirmMessage c) ∷ [] =
-          p ∙ (ap (λ (x : Reply). asked setup payload older (ClcEvent t B) x) told ∙ (k.posts ∙ ap (λ (l : LinkId). confirm_post setup payload t true l older ∷ []) (named (FirstAccepted o) o at refl))) in
+      p ∙ (ap (λ (x : Reply). asked setup payload older (ClcEvent t B) x) told ∙ (k.posts ∙ ap (λ (l : LinkId). confirm_post setup payload t true l older ∷ []) (named (FirstAccepted o) o at refl))) in
       is-this setup one payload actor t older B reply (Sent ConfirmSent) posts (Clc A t (Some the_link) (ConfirmMessage c) ∷ []) told given (record {
         stage = Made t;
         world = clc-world setup actor t B (Sent ConfirmSent) (Clc A t (Some the_link) (ConfirmMessage c) ∷ []) older (Begun t) (Made t) w (makes-link setup actor t older o c w.link (at.offer B) i j)
@@ -82,9 +82,9 @@ module _ (setup : Setup) (one : IsOneLink setup) (payload : List ℕ) (actor t :
       let qp : ℕ = pair_on B 1 older in
       let m : LlcMessage = confirm_link setup B false the_link qp in
       let given : posts ≡ Llc B the_link m ∷ [] =
-          p ∙ (ap (λ (x : Reply). asked setup payload older (ClcEvent t A) x) told ∙ (k.posts
-          ∙ (ap (λ (l : LinkId). if c.first then Llc B l (confirm_link setup B false l (pair_on B l.slot older)) ∷ [] else []) (named (FirstConfirmed o c) o at refl)
-          ∙ ap (λ b. if b then Llc B the_link m ∷ [] else []) j.first_is))) in
+      p ∙ (ap (λ (x : Reply). asked setup payload older (ClcEvent t A) x) told ∙ (k.posts
+      ∙ (ap (λ (l : LinkId). if c.first then Llc B l (confirm_link setup B false l (pair_on B l.slot older)) ∷ [] else []) (named (FirstConfirmed o c) o at refl)
+      ∙ ap (λ b. if b then Llc B the_link m ∷ [] else []) j.first_is))) in
       is-this setup one payload actor t older A reply (Sent LinkSent) posts (Llc B the_link m ∷ []) told given (record {
         stage = Asking t qp;
         world = clc-world setup actor t A (Sent LinkSent) (Llc B the_link m ∷ []) older (Made t) (Asking t qp) w (asks-to-confirm setup actor t older c qp w.link (at.offer A) j)
@@ -124,7 +124,7 @@ module _ (setup : Setup) (one : IsOneLink setup) (payload : List ℕ) (actor t :
           let c : Offer = new_offer setup payload A false the_link older in
           let j : IsOffer setup A false c = new-is-offer setup payload A false (LiveAtBoth u) older free.0 w.link free.1 in
           let given : posts ≡ Clc A t (Some the_link) (ConfirmMessage c) ∷ [] =
-              p ∙ (ap (λ (x : Reply). asked setup payload older (ClcEvent t B) x) told ∙ (k.posts ∙ ap (λ (l : LinkId). confirm_post setup payload t false l older ∷ []) (named (Accepted o) o at refl))) in
+          p ∙ (ap (λ (x : Reply). asked setup payload older (ClcEvent t B) x) told ∙ (k.posts ∙ ap (λ (l : LinkId). confirm_post setup payload t false l older ∷ []) (named (Accepted o) o at refl))) in
           is-this setup one payload actor t older B reply Established posts (Clc A t (Some the_link) (ConfirmMessage c) ∷ []) told given (record {
             stage = LiveAtBoth u;
             world = clc-world setup actor t B Established (Clc A t (Some the_link) (ConfirmMessage c) ∷ []) older (LiveAtBoth u) (LiveAtBoth u) w
@@ -144,8 +144,8 @@ module _ (setup : Setup) (one : IsOneLink setup) (payload : List ℕ) (actor t :
       let k = is-taken setup payload (Confirmed o c) t A older (ConfirmMessage c) Ready at refl refl v in
       let told : reply ≡ Established = r ∙ (k.reply ∙ ap (λ b. if b then Sent LinkSent else Established) j.first_is) in
       let given : posts ≡ [] =
-          p ∙ (ap (λ (x : Reply). asked setup payload older (ClcEvent t A) x) told ∙ (k.posts
-          ∙ ap (λ b. let l : LinkId = unwrap_or (named_link t older) no_link in if b then Llc B l (confirm_link setup B false l (pair_on B l.slot older)) ∷ [] else []) j.first_is)) in
+      p ∙ (ap (λ (x : Reply). asked setup payload older (ClcEvent t A) x) told ∙ (k.posts
+      ∙ ap (λ b. let l : LinkId = unwrap_or (named_link t older) no_link in if b then Llc B l (confirm_link setup B false l (pair_on B l.slot older)) ∷ [] else []) j.first_is)) in
       is-this setup one payload actor t older A reply Established posts [] told given (record {
         stage = LiveAtBoth u;
         world = clc-world setup actor t A Established [] older (LiveAtBoth u) (LiveAtBoth u) w

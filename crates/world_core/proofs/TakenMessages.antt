@@ -80,12 +80,12 @@ is-taken setup payload k t dir older m step at waits first e =
     let v = verdict-is setup payload k t (other dir) older m step at e in
     record {
       reply =
-        told-is setup payload k t dir older at
-        ∙ (ap (λ b. if b then front_told setup payload (other dir) t older (front_of_posts (head (untaken_at setup k dir))) else Idle) waits
-        ∙ (ap (λ o. front_told setup payload (other dir) t older (front_of_posts o)) first ∙ ap (λ s. step_told (group_on t older) m s) v));
+          told-is setup payload k t dir older at
+          ∙ (ap (λ b. if b then front_told setup payload (other dir) t older (front_of_posts (head (untaken_at setup k dir))) else Idle) waits
+          ∙ (ap (λ o. front_told setup payload (other dir) t older (front_of_posts o)) first ∙ ap (λ s. step_told (group_on t older) m s) v));
       posts =
-        ap (λ f. front_posts setup payload (other dir) t older f) (front-is setup payload k t dir older at)
-        ∙ (ap (λ o. front_posts setup payload (other dir) t older (front_of_posts o)) first ∙ ap (λ s. clc_posts setup payload (other dir) t m older s) v);
+          ap (λ f. front_posts setup payload (other dir) t older f) (front-is setup payload k t dir older at)
+          ∙ (ap (λ o. front_posts setup payload (other dir) t older (front_of_posts o)) first ∙ ap (λ s. clc_posts setup payload (other dir) t m older s) v);
     }
 
 -- at which step of the link a socket of first contact is
@@ -193,7 +193,7 @@ module _ (setup : Setup) (one : IsOneLink setup) (payload : List ℕ) (actor t :
           let o : Offer = new_offer setup payload B true the_link older in
           let i : IsOffer setup B true o = new-is-offer setup payload B true NoLink older q w2.link free in
           let given : posts ≡ Clc B t (Some the_link) (AcceptMessage o) ∷ [] =
-              p ∙ (ap (λ (x : Reply). asked setup payload older (ClcEvent t A) x) told ∙ (k.posts ∙ ap (λ (l : LinkId). accept_post setup payload t true l older ∷ []) (first-link setup older one.links w2.link))) in
+          p ∙ (ap (λ (x : Reply). asked setup payload older (ClcEvent t A) x) told ∙ (k.posts ∙ ap (λ (l : LinkId). accept_post setup payload t true l older ∷ []) (first-link setup older one.links w2.link))) in
           is-this A reply (Sent AcceptSent) posts (Clc B t (Some the_link) (AcceptMessage o) ∷ []) told given (record {
             stage = Begun t;
             world = clc-world setup actor t A (Sent AcceptSent) (Clc B t (Some the_link) (AcceptMessage o) ∷ []) older NoLink (Begun t) w2 (begins-link setup actor t older o w2.link i)
@@ -210,7 +210,7 @@ module _ (setup : Setup) (one : IsOneLink setup) (payload : List ℕ) (actor t :
           let o : Offer = new_offer setup payload B false the_link older in
           let i : IsOffer setup B false o = new-is-offer setup payload B false (LiveAtBoth u) older q w2.link free in
           let given : posts ≡ Clc B t (Some the_link) (AcceptMessage o) ∷ [] =
-              p ∙ (ap (λ (x : Reply). asked setup payload older (ClcEvent t A) x) told ∙ (k.posts ∙ ap (λ (l : LinkId). accept_post setup payload t false l older ∷ []) (later-link setup payload older u w2.link))) in
+          p ∙ (ap (λ (x : Reply). asked setup payload older (ClcEvent t A) x) told ∙ (k.posts ∙ ap (λ (l : LinkId). accept_post setup payload t false l older ∷ []) (later-link setup payload older u w2.link))) in
           is-this A reply (Sent AcceptSent) posts (Clc B t (Some the_link) (AcceptMessage o) ∷ []) told given (record {
             stage = LiveAtBoth u;
             world = clc-world setup actor t A (Sent AcceptSent) (Clc B t (Some the_link) (AcceptMessage o) ∷ []) older (LiveAtBoth u) (LiveAtBoth u) w2

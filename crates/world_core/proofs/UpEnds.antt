@@ -102,7 +102,7 @@ up-facts setup payload stage x s past w knows u =
       theirs = at.offer (other x) ∙ i.theirs;
       named = ap (λ o. option_map (λ (p : Offered). p.link) o) (at.offer B) ∙ on_the_link (offered_at h.at B) i.offer i.own i.of_b;
       heard = ap (λ b. if awaits_confirm (if b then IsUp else early_state x s past) then None else option_map (λ (p : Offered). p.offer) (offered (other x) s past)) u
-        ∙ ap (λ o. option_map (λ (p : Offered). p.offer) o) (at.offer (other x) ∙ i.theirs);
+          ∙ ap (λ o. option_map (λ (p : Offered). p.offer) o) (at.offer (other x) ∙ i.theirs);
       rmb = mine.rmb;
       lending = l.0;
       lent_is = l.1;

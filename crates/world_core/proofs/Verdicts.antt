@@ -97,9 +97,9 @@ module _ (setup : Setup) (one : IsOneLink setup) (payload : List ℕ) (past : Li
       (ap (λ (f : Fabric). f.b.group == 0) at.fabric_is)
       (ap (λ (slots : List ℕ). length slots == 0) (slots-up setup stage past one.links at))
       (λ none free.
-        let f = has-free setup payload B past one.rmbs_b none in
-        let group : ((fabric_at stage).b.group == 0) ≡ false = sym (ap (λ (g : Fabric). g.b.group == 0) at.fabric_is) ∙ free in
-        ap (λ b. not b) (ready setup payload B past f.0 f.1 (ap (λ (ks : Keys). ks.confirmed) (at.keys B) ∙ confirmed-b stage group)))
+      let f = has-free setup payload B past one.rmbs_b none in
+      let group : ((fabric_at stage).b.group == 0) ≡ false = sym (ap (λ (g : Fabric). g.b.group == 0) at.fabric_is) ∙ free in
+      ap (λ b. not b) (ready setup payload B past f.0 f.1 (ap (λ (ks : Keys). ks.confirmed) (at.keys B) ∙ confirmed-b stage group)))
 
 -- A takes an Accept of first contact
 pub on-first : (setup : Setup) (payload : List ℕ) (past : List Entry) (t : ℕ) (o : Offer) → IsAtStage setup (Begun t) past → o.first ≡ true → on_accept o (lacks setup payload A past) ≡ SendConfirm true
@@ -128,9 +128,9 @@ on-later setup one payload past t o at first psn =
     let l : Lacks = lacks setup payload A past in
     subst (λ (b : Bool). OnAccept (l.free == 0) (if b then on_first_accept l else on_later_accept o l)) (sym first)
     (by-later o l (not (o.psn == l.group)) (is_deleting l.key_flow) (l.free == 0) (not l.rmb_ready)
-      (ap (λ n. not (n == l.group)) psn ∙ ap (λ (f : Fabric). not (1 == f.a.group)) at.fabric_is)
-      (ap (λ (f : Fabric). is_deleting f.a.flow.key) at.fabric_is)
-      (λ none. let f = has-free setup payload A past one.rmbs_a none in ap (λ b. not b) (ready setup payload A past f.0 f.1 (ap (λ (ks : Keys). ks.confirmed) (at.keys A)))))
+    (ap (λ n. not (n == l.group)) psn ∙ ap (λ (f : Fabric). not (1 == f.a.group)) at.fabric_is)
+    (ap (λ (f : Fabric). is_deleting f.a.flow.key) at.fabric_is)
+    (λ none. let f = has-free setup payload A past one.rmbs_a none in ap (λ b. not b) (ready setup payload A past f.0 f.1 (ap (λ (ks : Keys). ks.confirmed) (at.keys A)))))
 
 -- B takes a Confirm
 pub on-confirm : (setup : Setup) (payload : List ℕ) (past : List Entry) (stage : Stage) (o : Offer) → IsAtStage setup stage past → (fabric_at stage).b.group ≡ 1 → o.psn ≡ 1 → on_confirm o (lacks setup payload B past) ≡ Ready

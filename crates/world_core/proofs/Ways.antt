@@ -86,7 +86,7 @@ completing-found d past (inl e) = inl (ap (λ o. option_and_then (λ link. compl
 completing-found d past (inr e) =
     found-by (uncompleted the_link d past) past (completing 1 d past) (is-latest past e.0)
     (ap (λ o. option_and_then (λ link. completing_on link d past) o) e.0 ∙
-        ap (λ b. if b then None else head (uncompleted the_link d past)) (not-reported (is_cut the_link past) (some_reported the_link past) e.1))
+    ap (λ b. if b then None else head (uncompleted the_link d past)) (not-reported (is_cut the_link past) (some_reported the_link past) e.1))
 
 -- a landing is told as landed or as dropped
 lands-as : (setup : Setup) (payload : List ℕ) (y : Side) (past : List Entry) (c : Placed) (post : Post) → (lands_told setup payload y past c post ≡ Landed c.at) ⊎ ((token : ℕ) × (lands_told setup payload y past c post ≡ Dropped token))

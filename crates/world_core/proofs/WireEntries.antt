@@ -46,8 +46,8 @@ takes-sent : (m : Sent) (h : Half) → IsSent (takes (Some m) h) h
 takes-sent m h =
     sent-either (is_over h) h (if m.check then validates m.snapshot.number h else takes_snapshot m.snapshot h) h (sent-self h)
     (sent-either m.check (validates m.snapshot.number h) (takes_snapshot m.snapshot h) h
-      (sent-either (shows_gap m.snapshot.number h.taken.number) (strikes (Gap (wire_number m.snapshot.number) (wire_number h.taken.number)) h) h h (record { up = refl; link = refl; sent = refl }) (sent-self h))
-      (sent-either m.snapshot.aborted (strikes PeerAbort (record h { taken = m.snapshot })) (record h { taken = m.snapshot }) h (record { up = refl; link = refl; sent = refl }) (record { up = refl; link = refl; sent = refl })))
+    (sent-either (shows_gap m.snapshot.number h.taken.number) (strikes (Gap (wire_number m.snapshot.number) (wire_number h.taken.number)) h) h h (record { up = refl; link = refl; sent = refl }) (sent-self h))
+    (sent-either m.snapshot.aborted (strikes PeerAbort (record h { taken = m.snapshot })) (record h { taken = m.snapshot }) h (record { up = refl; link = refl; sent = refl }) (record { up = refl; link = refl; sent = refl })))
 
 completes-sent : (m : Sent) (h : Half) → IsSent (completes (Some m) h) h
 completes-sent m h =
@@ -150,10 +150,10 @@ module _ (setup : Setup) (payload : List ℕ) (regions : List Buffer) (stage : S
         let others : (t : ℕ) → (t == s) ≡ false → deeds payload t e.event e.reply past ≡ [] = λ t n. is t ∙ given-elsewhere setup past offers x s at m (Completes x) t n in
         let kept = completes-sent sent (end_of setup payload x s past) in
         let own : after_at setup payload regions stage e past calm knows x s ≡ settle setup.depth (completes (Some sent) (end_of setup payload x s past)) =
-            ap (λ (is : List Item). half x (pipe (terms_of setup) (is ++ items_of s))) one ∙ (completed (terms_of setup) (items_of s) x
-            ∙ ap (λ o. settle setup.depth (completes o (end_of setup payload x s past))) first) in
+        ap (λ (is : List Item). half x (pipe (terms_of setup) (is ++ items_of s))) one ∙ (completed (terms_of setup) (items_of s) x
+        ∙ ap (λ o. settle setup.depth (completes o (end_of setup payload x s past))) first) in
         let theirs : after_at setup payload regions stage e past calm knows (other x) s ≡ end_of setup payload (other x) s past =
-            ap (λ (is : List Item). half (other x) (pipe (terms_of setup) (is ++ items_of s))) one ∙ completed-other (terms_of setup) (items_of s) x in
+        ap (λ (is : List Item). half (other x) (pipe (terms_of setup) (is ++ items_of s))) one ∙ completed-other (terms_of setup) (items_of s) x in
         record {
           own = one-acted setup payload regions stage e past calm knows s known others x (completes (Some sent)) own;
           theirs = one-kept setup payload regions stage e past calm knows s known others (other x) theirs;
@@ -168,10 +168,10 @@ module _ (setup : Setup) (payload : List ℕ) (regions : List Buffer) (stage : S
         let others : (t : ℕ) → (t == s) ≡ false → deeds payload t e.event e.reply past ≡ [] = λ t n. is t ∙ given-elsewhere setup past offers x s at m (Lands x) t n in
         let kept = takes-sent sent (end_of setup payload (other x) s past) in
         let sends : after_at setup payload regions stage e past calm knows x s ≡ lands (end_of setup payload x s past) =
-            ap (λ (is : List Item). half x (pipe (terms_of setup) (is ++ items_of s))) one ∙ landed (terms_of setup) (items_of s) x in
+        ap (λ (is : List Item). half x (pipe (terms_of setup) (is ++ items_of s))) one ∙ landed (terms_of setup) (items_of s) x in
         let takes_it : after_at setup payload regions stage e past calm knows (other x) s ≡ settle setup.depth (takes (Some sent) (end_of setup payload (other x) s past)) =
-            ap (λ (is : List Item). half (other x) (pipe (terms_of setup) (is ++ items_of s))) one ∙ (taken (terms_of setup) (items_of s) x
-            ∙ ap (λ o. settle setup.depth (takes o (end_of setup payload (other x) s past))) first) in
+        ap (λ (is : List Item). half (other x) (pipe (terms_of setup) (is ++ items_of s))) one ∙ (taken (terms_of setup) (items_of s) x
+        ∙ ap (λ o. settle setup.depth (takes o (end_of setup payload (other x) s past))) first) in
         record {
           taker = one-acted setup payload regions stage e past calm knows s known others (other x) (takes (Some sent)) takes_it;
           sender = one-changed setup payload regions stage e past calm knows s known others x lands sends;
