@@ -46,7 +46,7 @@ module _ (setup : Setup) (payload : List ℕ) (regions : List Buffer) (x : Side)
   -- nothing has changed
   pub manager-kept : ((s : ℕ) → end_of setup payload x s one ≡ end_of setup payload x s two) → manager_of setup payload regions x one ≡ manager_of setup payload regions x two
   manager-kept ends = kept-but (each_socket (conn_of setup payload x two) setup.sockets)
-      (same-sockets (conn_of setup payload x one) (conn_of setup payload x two) (λ s. same-conn setup payload x one two s (each s) desk.all desk.lent_is (ends s)) setup.sockets)
+      (same-sockets (conn_of setup payload x one) (conn_of setup payload x two) (λ s. same-conn setup payload x one two s (let k = each s in k.route) desk.all desk.lent_is (ends s)) setup.sockets)
 
   -- the end of one socket has changed
   pub end-changed : (s : ℕ) (act : Half → Half) → s < setup.sockets → ((t : ℕ) → (t == s) ≡ false → end_of setup payload x t one ≡ end_of setup payload x t two)
@@ -55,11 +55,23 @@ module _ (setup : Setup) (payload : List ℕ) (regions : List Buffer) (x : Side)
       let was : List (Option (Connection Half)) = each_socket (conn_of setup payload x two) setup.sockets in
       let change : Connection Half → Connection Half = λ c. record c { end = act c.end } in
       kept-but (slice_set was s (option_map change (slice_index_or was s None)))
-      (sym (set-socket (conn_of setup payload x two) (conn_of setup payload x one) setup.sockets s (λ t n. same-conn setup payload x one two t (each t) desk.all desk.lent_is (others t n)))
-      ∙ (ap (λ (c : Option (Connection Half)). slice_set was s c) (acted-conn setup payload x one two s act (each s) desk.all desk.lent_is own)
+      (sym (set-socket (conn_of setup payload x two) (conn_of setup payload x one) setup.sockets s (λ t n. same-conn setup payload x one two t (let k = each t in k.route) desk.all desk.lent_is (others t n)))
+      ∙ (ap (λ (c : Option (Connection Half)). slice_set was s c) (acted-conn setup payload x one two s act (let k = each s in k.route) desk.all desk.lent_is own)
       ∙ ap (λ (c : Option (Connection Half)). slice_set was s (option_map change c)) (sym (at-socket (conn_of setup payload x two) setup.sockets s None l))))
 
   -- something was done to it, and what is due then was posted
   pub end-acted : (s : ℕ) (act : Half → Half) → s < setup.sockets → ((t : ℕ) → (t == s) ≡ false → end_of setup payload x t one ≡ end_of setup payload x t two)
       → end_of setup payload x s one ≡ settle setup.depth (act (end_of setup payload x s two)) → manager_of setup payload regions x one ≡ acts_at s act (manager_of setup payload regions x two)
   end-acted s act l others own = end-changed s (λ h. settle setup.depth (act h)) l others own
+
+-- a manager by its parts
+pub by-parts : (setup : Setup) (payload : List ℕ) (regions : List Buffer) (x : Side) (past : List Entry) (desk : Desk) (hands : List Hand) (conns : List (Option (Connection Half))) (tokens spare : ℕ)
+    → desk_of setup payload x past ≡ desk → each_socket (hand_of x past) setup.sockets ≡ hands → each_socket (conn_of setup payload x past) setup.sockets ≡ conns
+    → length (lendings x past) ≡ tokens → length (free_places setup payload x past) ≡ spare
+    → manager_of setup payload regions x past ≡ manager_from setup regions desk hands conns tokens spare
+by-parts setup payload regions x past desk hands conns tokens spare d h c t n =
+    ap (λ d. manager_from setup regions d (each_socket (hand_of x past) setup.sockets) (each_socket (conn_of setup payload x past) setup.sockets) (length (lendings x past)) (length (free_places setup payload x past))) d
+    ∙ (ap (λ (hs : List Hand). manager_from setup regions desk hs (each_socket (conn_of setup payload x past) setup.sockets) (length (lendings x past)) (length (free_places setup payload x past))) h
+    ∙ (ap (λ (cs : List (Option (Connection Half))). manager_from setup regions desk hands cs (length (lendings x past)) (length (free_places setup payload x past))) c
+    ∙ (ap (λ n. manager_from setup regions desk hands conns n (length (free_places setup payload x past))) t
+    ∙ ap (λ n. manager_from setup regions desk hands conns tokens n) n)))

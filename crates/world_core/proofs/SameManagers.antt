@@ -82,13 +82,17 @@ module _ (setup : Setup) (payload : List ℕ) (x : Side) (one two : List Entry) 
       ∙ (ap (λ (rs : List Row). desk_from setup x (fabric two) (groups_begun two) (map (λ k. pair_on x k two) (up_to most_slots)) (serial x two) (keys_of x two) (book_of x two) rs (first_on x one)) (same-rows s)
       ∙ ap (λ n. desk_from setup x (fabric two) (groups_begun two) (map (λ k. pair_on x k two) (up_to most_slots)) (serial x two) (keys_of x two) (book_of x two) (rows_of setup payload x two) n) s.first))))))
 
--- two histories show the same of what a side keeps of a socket, its end apart
-pub record SameSocket (x : Side) (one two : List Entry) (s : ℕ) : Type 0 where
-  pub raw : is_raw s one ≡ is_raw s two
-  pub state : end_state x s one ≡ end_state x s two
+-- two histories show the same of the route of a socket's connection
+pub record SameRoute (x : Side) (one two : List Entry) (s : ℕ) : Type 0 where
   pub up : is_up x s one ≡ is_up x s two
   pub link : named_link s one ≡ named_link s two
   pub heard : heard_on x s one ≡ heard_on x s two
+
+-- and of its handshake
+pub record SameSocket (x : Side) (one two : List Entry) (s : ℕ) : Type 0 where
+  pub raw : is_raw s one ≡ is_raw s two
+  pub state : end_state x s one ≡ end_state x s two
+  pub route : SameRoute x one two s
 
 pub same-hand : (x : Side) (one two : List Entry) (s : ℕ) → SameSocket x one two s → hand_of x one s ≡ hand_of x two s
 same-hand x one two s same =
@@ -112,7 +116,7 @@ conn_from s link up all heard end lent_now =
 
 module _ (setup : Setup) (payload : List ℕ) (x : Side) (one two : List Entry) where
   -- all but the end
-  moved-conn : (s : ℕ) → SameSocket x one two s → lendings x one ≡ lendings x two → lent setup payload x one ≡ lent setup payload x two
+  moved-conn : (s : ℕ) → SameRoute x one two s → lendings x one ≡ lendings x two → lent setup payload x one ≡ lent setup payload x two
       → conn_of setup payload x one s ≡ conn_from s (named_link s two) (is_up x s two) (lendings x two) (heard_on x s two) (end_of setup payload x s one) (lent setup payload x two)
   moved-conn s same all now =
       ap (λ o. conn_from s o (is_up x s one) (lendings x one) (heard_on x s one) (end_of setup payload x s one) (lent setup payload x one)) same.link
@@ -121,7 +125,7 @@ module _ (setup : Setup) (payload : List ℕ) (x : Side) (one two : List Entry) 
       ∙ (ap (λ (o : Option Offer). conn_from s (named_link s two) (is_up x s two) (lendings x two) o (end_of setup payload x s one) (lent setup payload x one)) same.heard
       ∙ ap (λ (ls : List Lending). conn_from s (named_link s two) (is_up x s two) (lendings x two) (heard_on x s two) (end_of setup payload x s one) ls) now)))
 
-  pub same-conn : (s : ℕ) → SameSocket x one two s → lendings x one ≡ lendings x two → lent setup payload x one ≡ lent setup payload x two
+  pub same-conn : (s : ℕ) → SameRoute x one two s → lendings x one ≡ lendings x two → lent setup payload x one ≡ lent setup payload x two
       → end_of setup payload x s one ≡ end_of setup payload x s two → conn_of setup payload x one s ≡ conn_of setup payload x two s
   same-conn s same all now end =
       moved-conn s same all now
@@ -134,7 +138,7 @@ module _ (setup : Setup) (payload : List ℕ) (x : Side) (one two : List Entry) 
   changed-end s act link up all heard h None = refl
   changed-end s act link up all heard h (Some l) = refl
 
-  pub acted-conn : (s : ℕ) (act : Half → Half) → SameSocket x one two s → lendings x one ≡ lendings x two → lent setup payload x one ≡ lent setup payload x two
+  pub acted-conn : (s : ℕ) (act : Half → Half) → SameRoute x one two s → lendings x one ≡ lendings x two → lent setup payload x one ≡ lent setup payload x two
       → end_of setup payload x s one ≡ act (end_of setup payload x s two)
       → conn_of setup payload x one s ≡ option_map (λ (c : Connection Half). let k : Connection Half = record c { end = act c.end } in k) (conn_of setup payload x two s)
   acted-conn s act same all now end =
