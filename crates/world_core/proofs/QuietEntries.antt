@@ -102,7 +102,7 @@ all-stay f [] e = refl
 all-stay f (l ∷ ls) e = ap (λ b. cond b (l ∷ filter f ls) (filter f ls)) (e l) ∙ ap (λ ks. l ∷ ks) (all-stay f ls e)
 
 -- the link's fate is no news where it stays as it is
-and-false : (b : Bool) → (b && false) ≡ false
+pub and-false : (b : Bool) → (b && false) ≡ false
 and-false true = refl
 and-false false = refl
 
@@ -120,7 +120,7 @@ one-fate B g (LiveAtA s qp) = rw (and-false (1 == g)) refl
 one-fate A g (LiveAtBoth s) = rw (and-false (1 == g)) refl
 one-fate B g (LiveAtBoth s) = rw (and-false (1 == g)) refl
 
-same-group : (g a b : ℕ) → b ≡ a → (not (g == 0) && ((a == g) && not (b == g))) ≡ false
+pub same-group : (g a b : ℕ) → b ≡ a → (not (g == 0) && ((a == g) && not (b == g))) ≡ false
 same-group g a b e = ap (λ n. not (g == 0) && ((a == g) && not (n == g))) e ∙ never (not (g == 0)) (a == g)
   where
     never : (d c : Bool) → (d && (c && not c)) ≡ false
