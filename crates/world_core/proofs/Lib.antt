@@ -22,6 +22,7 @@ pub mod SameManagers
 pub mod KeptManagers
 pub mod PipeSteps
 pub mod QuietEntries
+pub mod Confirming
 pub mod OpenManagers
 pub mod StillEntries
 pub mod PlainPosts

@@ -46,7 +46,7 @@ pub record SameDesk (setup : Setup) (payload : List ℕ) (x : Side) (one two : L
   pub first : first_on x one ≡ first_on x two
 
 -- a desk of these parts
-abbrev desk_from : Setup → Side → Fabric → ℕ → List ℕ → ℕ → Keys → List Key → List Row → ℕ → Desk
+abbrev pub desk_from : Setup → Side → Fabric → ℕ → List ℕ → ℕ → Keys → List Key → List Row → ℕ → Desk
 desk_from setup x f groups pairs number ks book rows first = record {
   side = x;
   setup = setup;
@@ -64,7 +64,7 @@ desk_from setup x f groups pairs number ks book rows first = record {
 }
 
 -- the rows of these lendings
-abbrev rows_from : Setup → Side → List Lending → List Lending → List Row
+abbrev pub rows_from : Setup → Side → List Lending → List Lending → List Row
 rows_from setup x all lent_now = map (row_of all lent_now) (all_places (rmbs_of setup x) (elements_of setup x))
 
 module _ (setup : Setup) (payload : List ℕ) (x : Side) (one two : List Entry) where
@@ -100,7 +100,7 @@ same-hand x one two s same =
     ∙ ap (λ e. let h : Hand = record { raw = is_raw s two; state = e } in h) same.state
 
 -- a route of these parts
-abbrev route_from : Option LinkId → Bool → List Lending → Option Offer → Lending → Route
+abbrev pub route_from : Option LinkId → Bool → List Lending → Option Offer → Lending → Route
 route_from link up all heard l = record {
   link = unwrap_or link no_link;
   up = up;
@@ -110,7 +110,7 @@ route_from link up all heard l = record {
 }
 
 -- a connection of these parts
-abbrev conn_from : ℕ → Option LinkId → Bool → List Lending → Option Offer → Half → List Lending → Option (Connection Half)
+abbrev pub conn_from : ℕ → Option LinkId → Bool → List Lending → Option Offer → Half → List Lending → Option (Connection Half)
 conn_from s link up all heard end lent_now =
     option_map (λ l. let c : Connection Half = record { route = route_from link up all heard l; end = end } in c) (lending_on s lent_now)
 
