@@ -46,10 +46,12 @@ pub record IsConfirming (payload : List ℕ) (x : Side) (reply : Bool) (e : Entr
 pub record IsWaiting (setup : Setup) (x : Side) (t : ℕ) (past : List Entry) : Type 0 where
   pub offer : Offer
   pub first : Offer
+  pub own : Offer
   pub down : is_up x t past ≡ false
   pub state : end_state x t past ≡ WaitsLink
   pub theirs : offered (other x) t past ≡ on_link offer
   pub of_b : offered B t past ≡ on_link first
+  pub ours : offered x t past ≡ on_link own
   pub is_first : first.first ≡ true
   pub rmb : rmb_at offer.address ≡ 1
   pub others : (s : ℕ) → (s == t) ≡ false → (y : Side) → offered y s past ≡ None
@@ -72,10 +74,12 @@ module _ (setup : Setup) (past : List Entry) where
   awaits t (AwaitsLink o p) e at others = let f = at.offers B (record { link = the_link; offer = o }) refl in record {
     offer = o;
     first = o;
+    own = p;
     down = at.up A;
     state = ap (λ b. if b then IsUp else early_state A t past) (at.up A) ∙ at.early A;
     theirs = at.offer B;
     of_b = at.offer B;
+    ours = at.offer A;
     is_first = f.first_is;
     rmb = f.rmb;
     others = others;
@@ -89,10 +93,12 @@ module _ (setup : Setup) (past : List Entry) where
       record {
         offer = p;
         first = o;
+        own = o;
         down = at.up B;
         state = ap (λ b. if b then IsUp else early_state B t past) (at.up B) ∙ at.early B;
         theirs = at.offer A;
         of_b = at.offer B;
+        ours = at.offer B;
         is_first = f.first_is;
         rmb = g.rmb;
         others = others;

@@ -22,6 +22,9 @@ pub mod SameManagers
 pub mod KeptManagers
 pub mod PipeSteps
 pub mod QuietEntries
+pub mod RisenEnds
+pub mod LinkManagers
+pub mod Lendings
 pub mod Confirming
 pub mod OpenManagers
 pub mod StillEntries

@@ -24,7 +24,7 @@ pub record KnowsEnds (setup : Setup) (payload : List ℕ) (past : List Entry) : 
   pub lent_up : (x : Side) (s : ℕ) → is_up x s past ≡ true → (l : Lending) × (lending_on s (lent setup payload x past) ≡ Some l)
 
 -- an end that is up has come behind the offers of both sides
-record IsBehind (k : Socket) (x : Side) : Type 0 where
+pub record IsBehind (k : Socket) (x : Side) : Type 0 where
   pub offer : Offer
   pub own : Offer
   pub theirs : offered_at k (other x) ≡ on_link offer
@@ -34,7 +34,7 @@ record IsBehind (k : Socket) (x : Side) : Type 0 where
   pub no_first : (first_step k == 1) ≡ false
   pub no_second : (first_step k == 2) ≡ false
 
-behind : (k : Socket) (x : Side) → up_at k x ≡ true → IsBehind k x
+pub behind : (k : Socket) (x : Side) → up_at k x ≡ true → IsBehind k x
 behind (FirstUpAtA o p) A u = record { offer = o; own = p; theirs = refl; ours = refl; of_b = inl refl; has_offer = refl; no_first = refl; no_second = refl }
 behind (FirstUpAtA o p) B u = absurd (true≢false (sym u))
 behind (FirstUp o p) A u = record { offer = o; own = p; theirs = refl; ours = refl; of_b = inl refl; has_offer = refl; no_first = refl; no_second = refl }

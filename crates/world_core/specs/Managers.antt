@@ -20,8 +20,8 @@ use Rattle.pipe_model.specs.History.{offered}
 use Rattle.pipe_model.specs.Fabric.{fabric, group_of, table_of, flow_of, made_on}
 use Rattle.pipe_model.specs.Ends.{Half}
 use Rattle.pipe_model.specs.Pipe.{half}
-use Rattle.pipe_model.specs.Connections.{EndState, WaitsConfirm, named_link, group_on, is_up, end_state}
-use Rattle.pipe_model.specs.Lending.{Lending, lendings, lent, free_places, epoch, terms_of, pipe_of}
+use Rattle.pipe_model.specs.Connections.{EndState, WaitsConfirm, WaitsLink, IsUp, named_link, group_on, is_up, end_state}
+use Rattle.pipe_model.specs.Lending.{Lending, lends_by, lendings, lent, free_places, epoch, terms_of, pipe_of}
 use Rattle.pipe_model.specs.Fallback.{is_raw}
 use Rattle.pipe_model.specs.Keys.{keys_of, book_of}
 use Rattle.pipe_model.specs.Messages.{serial, pair_on}
@@ -147,3 +147,18 @@ manager_of setup payload regions x past = record {
 -- a manager with the end of a socket changed, where nothing is posted
 abbrev pub changes_end : ℕ → (Half → Half) → Manager Half → Manager Half
 changes_end s act m = record m { records = changes s (λ (c : Connection Half). let k : Connection Half = record c { end = act c.end } in k) m.records }
+
+-- whether an element is lent to an end in that state, once it was offered
+abbrev pub keeps_element : EndState → Bool
+keeps_element WaitsConfirm = true
+keeps_element WaitsLink = true
+keeps_element IsUp = true
+keeps_element _ = false
+
+-- the lending that a socket has by its state and its side's offer
+abbrev pub lending_due : Side → ℕ → List Entry → Option Lending
+lending_due x s past = if keeps_element (end_state x s past) then option_map (λ o. lends_by s o.link o.offer) (offered x s past) else None
+
+-- that each socket has just that one
+pub record HasLendings (setup : Setup) (payload : List ℕ) (past : List Entry) : Type 0 where
+  pub each : (x : Side) (s : ℕ) → lending_on s (lent setup payload x past) ≡ lending_due x s past
