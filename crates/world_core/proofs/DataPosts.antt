@@ -160,6 +160,9 @@ no-keys B table ks = by-data (λ p. keys_by_post B table ks p ≡ ks) (λ from l
 no-llc : (p : Post) → is_data p ≡ true → llc_of p ≡ None
 no-llc = by-data (λ p. llc_of p ≡ None) (λ from link key address len. refl) (λ from link m. refl)
 
+pub unseen-lends : (x : Side) (ps more : List Post) → AreData more → filter_map (lends x) (ps ++ more) ≡ filter_map (lends x) ps
+unseen-lends x ps more a = unseen-filter_map (lends x) (no-lending x) ps more a
+
 -- the LLC posts on a wire
 skip-llc : (b : Bool) (c : Placed) (cs : List Placed) → llc_of c.post ≡ None → filter_map llc_in (cond b (c ∷ cs) cs) ≡ filter_map llc_in cs
 skip-llc true c cs e = rw e refl

@@ -109,7 +109,7 @@ lands-none (Cdc from link m) e x past f = refl
 lands-none (Llc from link m) e x past f = cc
 lands-none (Clc from s link m) e x past f = refl
 
-acts-none : (p : Post) → llc_of p ≡ None → (x : Side) (past : List Entry) → act_of x (Some p) past ≡ None
+pub acts-none : (p : Post) → llc_of p ≡ None → (x : Side) (past : List Entry) → act_of x (Some p) past ≡ None
 acts-none (Write from link key address len) e x past = refl
 acts-none (Cdc from link m) e x past = refl
 acts-none (Llc from link m) e x past = cc
@@ -140,7 +140,7 @@ first-llc (d ∷ cs) c p q ps e f g =
     rest : p ∷ filter_map llc_in cs ≡ q ∷ ps → filter_map llc_in cs ≡ ps
     rest e = cc
 
-no-llc-first : (cs : List Placed) (c : Placed) (p : Post) → head cs ≡ Some c → llc_of c.post ≡ Some p → filter_map llc_in cs ≡ [] → ⊥
+pub no-llc-first : (cs : List Placed) (c : Placed) (p : Post) → head cs ≡ Some c → llc_of c.post ≡ Some p → filter_map llc_in cs ≡ [] → ⊥
 no-llc-first [] c p e f g = cc
 no-llc-first (d ∷ cs) c p e f g =
     let h : llc_of d.post ≡ Some p = ap (λ (r : Placed). llc_of r.post) (is d c e) ∙ f in
@@ -167,7 +167,7 @@ module _ (setup : Setup) (stage : Stage) (actor : ℕ) (older : List Entry) (at 
           subst (λ (l : LinkId). filter_map llc_in (drop (if same_side x dir && (l.slot == 1) then 1 else 0) (unlanded l x older)) ≡ llc_waiting l x older) (sym is) (on-the-link x dir first)
 
   -- it leaves, and what waits stays the same on all other links
-  elsewhere-stays : (link : LinkId) (x : Side) (n : ℕ) → same_link link the_link ≡ false → filter_map llc_in (drop (if_latest link older n) (unlanded link x older)) ≡ []
+  pub elsewhere-stays : (link : LinkId) (x : Side) (n : ℕ) → same_link link the_link ≡ false → filter_map llc_in (drop (if_latest link older n) (unlanded link x older)) ≡ []
   elsewhere-stays link x n apart = by_latest (is_latest link older) refl ∙ at.elsewhere link x apart
     where
       by_latest : (b : Bool) → is_latest link older ≡ b → filter_map llc_in (drop (if b then n else 0) (unlanded link x older)) ≡ llc_waiting link x older

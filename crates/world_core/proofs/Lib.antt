@@ -1,13 +1,17 @@
 pub mod ClcMoves
+pub mod Confirmations
 pub mod DataPosts
 pub mod Handshakes
 pub mod InHistory
 pub mod Landings
+pub mod LendingFacts
+pub mod LinkFacts
 pub mod LinkMoves
 pub mod Lists
 pub mod Moves
 pub mod Offers
 pub mod Openings
+pub mod PlayedWorlds
 pub mod QuietEvents
 pub mod Sound
 pub mod NewManagers
@@ -37,6 +41,7 @@ pub mod ActedEnds
 pub mod DuePosts
 pub mod UpEnds
 pub mod Places
+pub mod StillLent
 pub mod TakenAnswers
 pub mod TakenMessages
 pub mod Verdicts

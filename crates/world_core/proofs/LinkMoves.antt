@@ -150,7 +150,7 @@ module _ (setup : Setup) (actor t : ℕ) (older : List Entry) where
       }
 
   -- an LLC message on the link is on no other wire
-  not-elsewhere : (link : LinkId) (x : Side) (n : ℕ) (from : Side) (m : LlcMessage) → same_link link the_link ≡ false → posted_llc link x n 1 (Llc from the_link m ∷ []) ≡ []
+  pub not-elsewhere : (link : LinkId) (x : Side) (n : ℕ) (from : Side) (m : LlcMessage) → same_link link the_link ≡ false → posted_llc link x n 1 (Llc from the_link m ∷ []) ≡ []
   not-elsewhere link x n from m e = ap (λ b. filter_map llc_in (cond (same_side x from && b) (record { at = record { entry = n; post = 1 }; post = Llc from the_link m } ∷ []) [])) e ∙ by_test (same_side x from)
     where
       by_test : (b : Bool) → filter_map llc_in (cond (b && false) (record { at = record { entry = n; post = 1 }; post = Llc from the_link m } ∷ []) []) ≡ []

@@ -12,7 +12,7 @@ use Rattle.pipe_model.specs.declared.setup.Setup.{Setup}
 use Rattle.pipe_model.specs.Fabric.{fabric, made_on, path_up, peer}
 use Rattle.smc_num.specs.Names.{head, up_to}
 use Rattle.smc_num.specs.declared.Side.TheVariants.{A, B}
-use Rattle.pipe_model.specs.Posts.{fewest, first_link, groups_begun, lightest, link_now, new_offer, next_free}
+use Rattle.pipe_model.specs.Posts.{fewest, first_link, groups_begun, lightest, link_now, new_offer, next_free, offered_place}
 use Rattle.world_core.specs.OneLink.{Asking, Begun, IsAtStage, LiveAtA, LiveAtBoth, Made, NoLink, Stage, keys_at, the_key, the_link}
 use Rattle.pipe_model.specs.Words.{elements_of, rmbs_of}
 use Rattle.smc_num.specs.Keys.{key_base, number_for}
@@ -130,6 +130,17 @@ new-is-offer setup payload x first stage past p at f =
       mtu = refl;
       psn = refl;
     }
+
+-- and its place
+pub new-place : (setup : Setup) (payload : List ℕ) (x : Side) (first : Bool) (stage : Stage) (past : List Entry) (p : Place) → IsAtStage setup stage past → IsFree setup payload x past p
+    → head (free_places setup payload x past) ≡ Some (offered_place (new_offer setup payload x first the_link past))
+new-place setup payload x first stage past p at f =
+    let i : IsOffer setup x first (new_offer setup payload x first the_link past) = new-is-offer setup payload x first stage past p at f in
+    let place : p ≡ next_free setup payload x past = sym (ap (λ o. unwrap_or o (record { rmb = 0; index = 0 })) f.found) in
+    let index : p.index ≡ (next_free setup payload x past).index = ap (λ (q : Place). q.index) place in
+    f.found
+    ∙ ap Some (ap (λ n. let q : Place = record { rmb = n; index = p.index } in q) (f.rmb ∙ sym i.rmb)
+    ∙ ap (λ n. let q : Place = record { rmb = rmb_at (new_offer setup payload x first the_link past).address; index = n } in q) index)
 
 -- the slot whose path is up
 pub slots-up : (setup : Setup) (stage : Stage) (past : List Entry) → setup.links ≡ 1 → IsAtStage setup stage past → slots_up setup past ≡ 1 ∷ []

@@ -30,7 +30,7 @@ use Rattle.smc_num.specs.declared.LinkId.{LinkId}
 use Rattle.pipe_model.specs.Posts.{begins_group_in, proposal_post}
 use Rattle.pipe_model.specs.Lending.{Lending, lendings}
 use Rattle.pipe_model.specs.History.{Offered, next_number, offer_in}
-use Rattle.world_core.proofs.TakenMessages.{Goes, StillUnlent, lent-none, unoffered-alike}
+use Rattle.world_core.proofs.TakenMessages.{StillUnlent, lent-none, unoffered-alike}
 use Rattle.world_core.proofs.Moves.{KeepsGroups, MovesLink, MovesSocket, has-book, has-group, keeps-group, link-moves, shows-quiet, socket-moves, world-same}
 use Rattle.pipe_model.specs.Ends.{moves}
 use Rattle.std.specs.Option.{option_or}
@@ -38,6 +38,7 @@ use Rattle.pipe_model.specs.Connections.{EndState, HasFallen, WaitsAnswer, Waits
 use Rattle.world_core.specs.OneLink.{IsAtStage, Stage, book_at, fabric_at, groups_at, keys_at, posted_llc, the_link, waiting_at}
 use Rattle.pipe_model.specs.Messages.{proposal}
 use Rattle.std.specs.Prelude.{Bool, List, None, [], drop, false, filter, filter_map, fold, if◌then◌else◌, is_some, length, not, slice_index_or, true, ℕ, ◌&&◌, ◌++◌, ◌+◌, ◌==◌, ◌||◌, ◌∷◌}
+use Rattle.world_core.specs.Lent.{Begins, BeginsNone, LeadsOn}
 
 -- a world whose link and sockets move with an entry
 pub world-moves : (setup : Setup) (d : Entry) (older : List Entry) (from to : Stage) → IsWorld setup from older → MovesLink setup d older from to → KeepsGroups from to
@@ -98,7 +99,7 @@ module _ (setup : Setup) (actor t : ℕ) (older : List Entry) where
   }
 
   -- another socket
-  early-apart : (x : Side) (s : ℕ) (reply : Reply) (state : EndState) → (s == t) ≡ false → after_event x s (Open t) reply state ≡ state
+  pub early-apart : (x : Side) (s : ℕ) (reply : Reply) (state : EndState) → (s == t) ≡ false → after_event x s (Open t) reply state ≡ state
   early-apart A s Opened state e = ap (λ b. if b then WaitsAnswer else state) e
   early-apart B s Opened state e = ap (λ b. if b then WaitsProposal else state) e
   early-apart A s (Declined lack) state e = ap (λ b. if b then HasFallen else state) e
@@ -141,32 +142,34 @@ module _ (setup : Setup) (actor t : ℕ) (older : List Entry) where
   abbrev told-by : Bool → Bool → Bool → Bool → Reply
   told-by opened raw a b = if opened || raw then NameUsed else if not (a && b) then Declined (NotCapable a b) else Opened
 
-  pub open-goes : (payload : List ℕ) (stage : Stage) (reply : Reply) (posts : List Post) → IsWorld setup stage older → reply ≡ open_told setup t older → posts ≡ asked setup payload older (Open t) reply → Goes setup (entry-of actor (Open t) reply posts ∷ older)
+  pub open-goes : (payload : List ℕ) (stage : Stage) (reply : Reply) (posts : List Post) → IsWorld setup stage older → reply ≡ open_told setup t older → posts ≡ asked setup payload older (Open t) reply → LeadsOn setup payload (entry-of actor (Open t) reply posts) older
   open-goes payload stage reply posts w r p = by_cases (is_opened t older) (is_raw t older) (slice_index_or setup.capable 0 false) (slice_index_or setup.capable 1 false) refl raw r
     where
       raw : is_raw t older ≡ false
       raw = let h = w.sockets t in let at = h.stands in at.raw
 
-      is-that : (told : Reply) (given : List Post) → reply ≡ told → posts ≡ given → Goes setup (entry-of actor (Open t) told given ∷ older) → Goes setup (entry-of actor (Open t) reply posts ∷ older)
+      is-that : (told : Reply) (given : List Post) → reply ≡ told → posts ≡ given → LeadsOn setup payload (entry-of actor (Open t) told given) older → LeadsOn setup payload (entry-of actor (Open t) reply posts) older
       is-that told given e f g =
-          subst (λ (q : Reply). Goes setup (entry-of actor (Open t) q posts ∷ older)) (sym e) (subst (λ (ps : List Post). Goes setup (entry-of actor (Open t) told ps ∷ older)) (sym f) g)
+          subst (λ (q : Reply). LeadsOn setup payload (entry-of actor (Open t) q posts) older) (sym e) (subst (λ (ps : List Post). LeadsOn setup payload (entry-of actor (Open t) told ps) older) (sym f) g)
 
       given-by : (told : Reply) → reply ≡ told → posts ≡ asked setup payload older (Open t) told
       given-by told e = p ∙ ap (λ (q : Reply). asked setup payload older (Open t) q) e
 
-      fallen : (lack : Lack) → reply ≡ Declined lack → is_opened t older ≡ false → Goes setup (entry-of actor (Open t) reply posts ∷ older)
+      fallen : (lack : Lack) → reply ≡ Declined lack → is_opened t older ≡ false → LeadsOn setup payload (entry-of actor (Open t) reply posts) older
       fallen lack e new = is-that (Declined lack) [] e (given-by (Declined lack) e) (record {
         stage = stage;
+        begins = by-side (λ x. Begins setup payload x (entry-of actor (Open t) (Declined lack) []) older) (BeginsNone refl) (BeginsNone refl);
         world = open-world stage (Declined lack) [] Fallen w new (open-link stage (Declined lack) [] w.link refl (λ x table ks. refl) (λ link x n. refl)) (falls-at-once lack (eq-eqb t t refl)) refl refl (λ s f. none-apart s) (lent-none stage [] refl refl);
       })
 
-      by_cases : (opened is_raw_now a b : Bool) → is_opened t older ≡ opened → is_raw_now ≡ false → reply ≡ told-by opened is_raw_now a b → Goes setup (entry-of actor (Open t) reply posts ∷ older)
-      by_cases true q a b new f e = is-that NameUsed [] e (given-by NameUsed e) (record { stage = stage; world = world-same setup stage (entry-of actor (Open t) NameUsed [] ∷ older) older (shows-quiet setup stage (entry-of actor (Open t) NameUsed []) older w.link (quiet-name actor older t)) w })
+      by_cases : (opened is_raw_now a b : Bool) → is_opened t older ≡ opened → is_raw_now ≡ false → reply ≡ told-by opened is_raw_now a b → LeadsOn setup payload (entry-of actor (Open t) reply posts) older
+      by_cases true q a b new f e = is-that NameUsed [] e (given-by NameUsed e) (record { stage = stage; world = world-same setup stage (entry-of actor (Open t) NameUsed [] ∷ older) older (shows-quiet setup stage (entry-of actor (Open t) NameUsed []) older w.link (quiet-name actor older t)) w; begins = λ x. BeginsNone refl })
       by_cases false true a b new f e = cc
       by_cases false false false b new f e = fallen (NotCapable false b) e new
       by_cases false false true false new f e = fallen (NotCapable true false) e new
       by_cases false false true true new f e = is-that Opened (proposal_post setup t ∷ []) e (given-by Opened e) (record {
         stage = stage;
+        begins = by-side (λ x. Begins setup payload x (entry-of actor (Open t) Opened (proposal_post setup t ∷ [])) older) (BeginsNone refl) (BeginsNone refl);
         world = open-world stage Opened (proposal_post setup t ∷ []) Proposed w new
             (open-link stage Opened (proposal_post setup t ∷ []) w.link refl
             (by-side (λ x. (table : List Known) (ks : Keys) → fold (keys_by_post x table) ks (proposal_post setup t ∷ []) ≡ ks) (λ table ks. refl) (λ table ks. refl))

@@ -30,18 +30,19 @@ use Rattle.pipe_model.specs.declared.setup.Setup.{Setup}
 use Rattle.world_core.specs.Sockets.{AcceptFallen, AcceptRefused, Accepted, AwaitsLink, Confirmed, Fallen, FirstAccepted, FirstConfirmed, IsOffer, IsWorld, Proposed, Refused, Socket, StandsAt, Up, has_not_lent, offered_at, on_link, suits}
 use Rattle.world_core.proofs.Handshakes.{asks-link, comes-up-later, confirms-first, confirms-later, falls-at-a, falls-at-b, offer-of, refuses-accept}
 use Rattle.smc_num.specs.declared.LinkId.{LinkId}
-use Rattle.world_core.proofs.Offers.{has-free, new-is-offer, none-lent, unlent-free}
+use Rattle.world_core.proofs.Offers.{has-free, new-is-offer, none-lent, unlent-free, new-place}
 use Rattle.world_core.specs.OneLink.{Asking, Begun, LiveAtBoth, Made, Stage, fabric_at, the_link}
 use Rattle.std.specs.Prelude.{List, None, Option, Some, [], false, filter_map, if◌then◌else◌, length, option_map, true, unwrap_or, ℕ, ◌==◌, ◌∷◌, ◌⊎◌}
 use Rattle.pipe_model.specs.Lending.{free_places, lends}
 use Rattle.pipe_model.specs.Messages.{confirm_link, pair_on, refusal}
 use Rattle.world_core.proofs.ClcMoves.{clc-is-apart, clc-world, keeps-same, link-still, llc-is-apart, none-apart}
-use Rattle.world_core.proofs.TakenMessages.{Goes, asking-suits, begun-with, idle, is-this, lent-none, live-with, made-suits, made-with, on-a-proposal, told-is, unoffered-alike, is-taken}
+use Rattle.world_core.proofs.TakenMessages.{asking-suits, begun-with, idle, is-this, lent-none, live-with, made-suits, made-with, on-a-proposal, told-is, unoffered-alike, is-taken}
 use Rattle.clc_wire.specs.declared.offer.Offer.{Offer}
+use Rattle.world_core.specs.Lent.{Begins, BeginsNone, BeginsOne, LeadsOn}
 
 module _ (setup : Setup) (one : IsOneLink setup) (payload : List ℕ) (actor t : ℕ) (older : List Entry) where
   abbrev GoesWith : Side → Reply → List Post → Type 0
-  GoesWith dir reply posts = Goes setup (entry-of actor (ClcEvent t dir) reply posts ∷ older)
+  GoesWith dir reply posts = LeadsOn setup payload (entry-of actor (ClcEvent t dir) reply posts) older
 
   -- the link that the Accept on the socket names
   named : (k : Socket) (o : Offer) → StandsAt setup k t older → offered_at k B ≡ on_link o → unwrap_or (named_link t older) no_link ≡ the_link
@@ -63,6 +64,7 @@ module _ (setup : Setup) (one : IsOneLink setup) (payload : List ℕ) (actor t :
       p ∙ (ap (λ (x : Reply). asked setup payload older (ClcEvent t B) x) told ∙ (k.posts ∙ ap (λ (l : LinkId). confirm_post setup payload t true l older ∷ []) (named (FirstAccepted o) o at refl))) in
       is-this setup one payload actor t older B reply (Sent ConfirmSent) posts (Clc A t (Some the_link) (ConfirmMessage c) ∷ []) told given (record {
         stage = Made t;
+        begins = by-side (λ x. Begins setup payload x (entry-of actor (ClcEvent t B) (Sent ConfirmSent) (Clc A t (Some the_link) (ConfirmMessage c) ∷ [])) older) (BeginsOne t B c refl refl (at.offer A) (new-place setup payload A true (Begun t) older free.0 w.link free.1) refl) (BeginsNone refl);
         world = clc-world setup actor t B (Sent ConfirmSent) (Clc A t (Some the_link) (ConfirmMessage c) ∷ []) older (Begun t) (Made t) w (makes-link setup actor t older o c w.link (at.offer B) i j)
             (by-side (λ x. ((peer x (fabric_at (Begun t))).group ≡ 0) ⊎ ((peer x (fabric_at (Begun t))).group ≡ (peer x (fabric_at (Made t))).group)) (inl refl) (inr refl))
             (FirstAccepted o) (FirstConfirmed o c) at (confirms-first setup actor t older e o c j) (ap (λ b. if b then true else false) e)
@@ -87,6 +89,7 @@ module _ (setup : Setup) (one : IsOneLink setup) (payload : List ℕ) (actor t :
       ∙ ap (λ b. if b then Llc B the_link m ∷ [] else []) j.first_is))) in
       is-this setup one payload actor t older A reply (Sent LinkSent) posts (Llc B the_link m ∷ []) told given (record {
         stage = Asking t qp;
+        begins = by-side (λ x. Begins setup payload x (entry-of actor (ClcEvent t A) (Sent LinkSent) (Llc B the_link m ∷ [])) older) (BeginsNone refl) (BeginsNone refl);
         world = clc-world setup actor t A (Sent LinkSent) (Llc B the_link m ∷ []) older (Made t) (Asking t qp) w (asks-to-confirm setup actor t older c qp w.link (at.offer A) j)
             (λ x. inr refl)
             (FirstConfirmed o c) (AwaitsLink o c) at (asks-link setup actor t older e o c m) (ap (λ b. if b then true else false) e)
@@ -111,6 +114,7 @@ module _ (setup : Setup) (one : IsOneLink setup) (payload : List ℕ) (actor t :
           let told : reply ≡ Declined lack = r ∙ k.reply in
           is-this setup one payload actor t older B reply (Declined lack) posts (Clc A t None (DeclineMessage (refusal A lack)) ∷ []) told (p ∙ (ap (λ (x : Reply). asked setup payload older (ClcEvent t B) x) told ∙ k.posts)) (record {
             stage = LiveAtBoth u;
+            begins = by-side (λ x. Begins setup payload x (entry-of actor (ClcEvent t B) (Declined lack) (Clc A t None (DeclineMessage (refusal A lack)) ∷ [])) older) (BeginsNone refl) (BeginsNone refl);
             world = clc-world setup actor t B (Declined lack) (Clc A t None (DeclineMessage (refusal A lack)) ∷ []) older (LiveAtBoth u) (LiveAtBoth u) w
                 (link-still setup actor t B (Declined lack) (Clc A t None (DeclineMessage (refusal A lack)) ∷ []) older (LiveAtBoth u) w.link (still-refusal-a t older (fabric_at (LiveAtBoth u)) lack (refusal A lack)))
                 (keeps-same (LiveAtBoth u)) (Accepted o) (AcceptRefused o (refusal A lack)) at (refuses-accept setup actor t older e o lack (refusal A lack)) suit
@@ -127,6 +131,7 @@ module _ (setup : Setup) (one : IsOneLink setup) (payload : List ℕ) (actor t :
           p ∙ (ap (λ (x : Reply). asked setup payload older (ClcEvent t B) x) told ∙ (k.posts ∙ ap (λ (l : LinkId). confirm_post setup payload t false l older ∷ []) (named (Accepted o) o at refl))) in
           is-this setup one payload actor t older B reply Established posts (Clc A t (Some the_link) (ConfirmMessage c) ∷ []) told given (record {
             stage = LiveAtBoth u;
+            begins = by-side (λ x. Begins setup payload x (entry-of actor (ClcEvent t B) Established (Clc A t (Some the_link) (ConfirmMessage c) ∷ [])) older) (BeginsOne t B c refl refl (at.offer A) (new-place setup payload A false (LiveAtBoth u) older free.0 w.link free.1) refl) (BeginsNone refl);
             world = clc-world setup actor t B Established (Clc A t (Some the_link) (ConfirmMessage c) ∷ []) older (LiveAtBoth u) (LiveAtBoth u) w
                 (link-still setup actor t B Established (Clc A t (Some the_link) (ConfirmMessage c) ∷ []) older (LiveAtBoth u) w.link (still-confirm t older (fabric_at (LiveAtBoth u)) c refl))
                 (keeps-same (LiveAtBoth u)) (Accepted o) (Confirmed o c) at (confirms-later setup actor t older e o c (at.offer B) j) suit
@@ -148,6 +153,7 @@ module _ (setup : Setup) (one : IsOneLink setup) (payload : List ℕ) (actor t :
       ∙ ap (λ b. let l : LinkId = unwrap_or (named_link t older) no_link in if b then Llc B l (confirm_link setup B false l (pair_on B l.slot older)) ∷ [] else []) j.first_is)) in
       is-this setup one payload actor t older A reply Established posts [] told given (record {
         stage = LiveAtBoth u;
+        begins = by-side (λ x. Begins setup payload x (entry-of actor (ClcEvent t A) Established []) older) (BeginsNone refl) (BeginsNone refl);
         world = clc-world setup actor t A Established [] older (LiveAtBoth u) (LiveAtBoth u) w
             (link-still setup actor t A Established [] older (LiveAtBoth u) w.link (still-up t older (fabric_at (LiveAtBoth u))))
             (keeps-same (LiveAtBoth u)) (Confirmed o c) (Up o c) at (comes-up-later setup actor t older e o c (at.offer B)) suit
@@ -162,6 +168,7 @@ module _ (setup : Setup) (one : IsOneLink setup) (payload : List ℕ) (actor t :
       let told : reply ≡ FellBack = r ∙ k.reply in
       is-this setup one payload actor t older B reply FellBack posts [] told (p ∙ (ap (λ (x : Reply). asked setup payload older (ClcEvent t B) x) told ∙ k.posts)) (record {
         stage = stage;
+        begins = by-side (λ x. Begins setup payload x (entry-of actor (ClcEvent t B) FellBack []) older) (BeginsNone refl) (BeginsNone refl);
         world = clc-world setup actor t B FellBack [] older stage stage w
             (link-still setup actor t B FellBack [] older stage w.link (still-fall t older (fabric_at stage) B))
             (keeps-same stage) (Refused d) Fallen at (falls-at-a setup actor t older (eq-eqb t t refl) d) (unoffered-alike stage t (Refused d) Fallen refl refl suit)
@@ -175,6 +182,7 @@ module _ (setup : Setup) (one : IsOneLink setup) (payload : List ℕ) (actor t :
       let told : reply ≡ FellBack = r ∙ k.reply in
       is-this setup one payload actor t older A reply FellBack posts [] told (p ∙ (ap (λ (x : Reply). asked setup payload older (ClcEvent t A) x) told ∙ k.posts)) (record {
         stage = LiveAtBoth u;
+        begins = by-side (λ x. Begins setup payload x (entry-of actor (ClcEvent t A) FellBack []) older) (BeginsNone refl) (BeginsNone refl);
         world = clc-world setup actor t A FellBack [] older (LiveAtBoth u) (LiveAtBoth u) w
             (link-still setup actor t A FellBack [] older (LiveAtBoth u) w.link (still-fall t older (fabric_at (LiveAtBoth u)) A))
             (keeps-same (LiveAtBoth u)) (AcceptRefused o d) (AcceptFallen o) at (falls-at-b setup actor t older (eq-eqb t t refl) o d) suit

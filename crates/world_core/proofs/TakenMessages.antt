@@ -37,16 +37,12 @@ use Rattle.pipe_model.specs.Fallback.{front, front_of, front_of_posts, stream, u
 use Rattle.pipe_model.specs.Replies.{clc_step, clc_told, expects, front_told, step_told}
 use Rattle.pipe_model.specs.Handshake.{lacks, on_proposal, verdict}
 use Rattle.world_core.specs.Sockets.{Accepted, FirstAccepted, FirstConfirmed, IsOffer, IsWorld, Proposed, Refused, Socket, StandsAt, end_at, first_step, has_not_lent, is_unoffered, untaken_at, up_at}
-use Rattle.world_core.proofs.Offers.{IsFree, first-link, has-free, later-link, new-is-offer}
+use Rattle.world_core.proofs.Offers.{IsFree, first-link, has-free, later-link, new-is-offer, new-place}
 use Rattle.world_core.specs.OneLink.{Asking, Begun, LiveAtA, LiveAtBoth, Made, NoLink, Stage, fabric_at, the_link}
 use Rattle.smc_num.specs.Places.{Place}
 use Rattle.world_core.proofs.LinkMoves.{begins-link, still-accept, still-refusal-b}
 use Rattle.world_core.proofs.Handshakes.{accepts-first, accepts-later, refuses-proposal}
-
--- some world after a history
-pub record Goes (setup : Setup) (past : List Entry) : Type 0 where
-  pub stage : Stage
-  pub world : IsWorld setup stage past
+use Rattle.world_core.specs.Lent.{Begins, BeginsNone, BeginsOne, LeadsOn}
 
 -- a message that is taken, with the verdict on it
 pub record Takes (setup : Setup) (payload : List ℕ) (t : ℕ) (dir : Side) (older : List Entry) (m : ClcMessage) (step : ClcStep) : Type 0 where
@@ -89,7 +85,7 @@ is-taken setup payload k t dir older m step at waits first e =
     }
 
 -- at which step of the link a socket of first contact is
-not-both : (b : Bool) → (if b then false else false) ≡ true → ⊥
+pub not-both : (b : Bool) → (if b then false else false) ≡ true → ⊥
 not-both true e = cc
 not-both false e = cc
 
@@ -135,11 +131,11 @@ unoffered-alike (LiveAtA t qp) s k j f u e = ap (λ (n : ℕ). if s == t then n 
 unoffered-alike (LiveAtBoth t) s k j f u e = ap (λ (n : ℕ). if s == t then n == 5 else n == 0) (sym f) ∙ e
 
 -- a test that failed leaves its other branch
-else-of : {X : Type 0} (b : Bool) (x y z : X) → b ≡ false → (if b then x else y) ≡ z → y ≡ z
+pub else-of : {X : Type 0} (b : Bool) (x y z : X) → b ≡ false → (if b then x else y) ≡ z → y ≡ z
 else-of true x y z e h = cc
 else-of false x y z e h = h
 
-to-else : {X : Type 0} (b : Bool) (x y z : X) → b ≡ false → y ≡ z → (if b then x else y) ≡ z
+pub to-else : {X : Type 0} (b : Bool) (x y z : X) → b ≡ false → y ≡ z → (if b then x else y) ≡ z
 to-else true x y z e h = cc
 to-else false x y z e h = h
 
@@ -165,28 +161,28 @@ module _ (setup : Setup) (one : IsOneLink setup) (payload : List ℕ) (actor t :
   same = eq-eqb t t refl
 
   -- an entry with this reply and these posts
-  pub is-this : (dir : Side) (reply told : Reply) (posts given : List Post) → reply ≡ told → posts ≡ given → Goes setup (entry-of actor (ClcEvent t dir) told given ∷ older) → Goes setup (entry-of actor (ClcEvent t dir) reply posts ∷ older)
+  pub is-this : (dir : Side) (reply told : Reply) (posts given : List Post) → reply ≡ told → posts ≡ given → LeadsOn setup payload (entry-of actor (ClcEvent t dir) told given) older → LeadsOn setup payload (entry-of actor (ClcEvent t dir) reply posts) older
   is-this dir reply told posts given e f g =
-      subst (λ (r : Reply). Goes setup (entry-of actor (ClcEvent t dir) r posts ∷ older)) (sym e) (subst (λ (ps : List Post). Goes setup (entry-of actor (ClcEvent t dir) told ps ∷ older)) (sym f) g)
+      subst (λ (r : Reply). LeadsOn setup payload (entry-of actor (ClcEvent t dir) r posts) older) (sym e) (subst (λ (ps : List Post). LeadsOn setup payload (entry-of actor (ClcEvent t dir) told ps) older) (sym f) g)
 
-  pub goes-quiet : (stage : Stage) (d : Entry) → IsWorld setup stage older → IsQuiet d older → Goes setup (d ∷ older)
-  goes-quiet stage d w q = record { stage = stage; world = world-same setup stage (d ∷ older) older (shows-quiet setup stage d older w.link q) w }
+  pub goes-quiet : (stage : Stage) (d : Entry) → IsWorld setup stage older → IsQuiet d older → LeadsOn setup payload d older
+  goes-quiet stage d w q = record { stage = stage; world = world-same setup stage (d ∷ older) older (shows-quiet setup stage d older w.link q) w; begins = λ x. BeginsNone (ap (λ (ps : List Post). filter_map (lends x) ps) q.posts) }
 
   pub idle : (stage : Stage) (dir : Side) (reply : Reply) (posts : List Post) → IsWorld setup stage older → reply ≡ clc_told setup payload t dir older → posts ≡ asked setup payload older (ClcEvent t dir) reply
-      → clc_told setup payload t dir older ≡ Idle → Goes setup (entry-of actor (ClcEvent t dir) reply posts ∷ older)
+      → clc_told setup payload t dir older ≡ Idle → LeadsOn setup payload (entry-of actor (ClcEvent t dir) reply posts) older
   idle stage dir reply posts w r p e =
       let told : reply ≡ Idle = r ∙ e in
       is-this dir reply Idle posts [] told (p ∙ ap (λ (q : Reply). asked setup payload older (ClcEvent t dir) q) told) (goes-quiet stage (entry-of actor (ClcEvent t dir) Idle []) w (quiet-idle-clc actor older t dir))
 
   -- B takes a Proposal
   pub on-a-proposal : (stage : Stage) (reply : Reply) (posts : List Post) → IsWorld setup stage older → StandsAt setup Proposed t older → suits stage t Proposed ≡ true
-      → reply ≡ clc_told setup payload t A older → posts ≡ asked setup payload older (ClcEvent t A) reply → Goes setup (entry-of actor (ClcEvent t A) reply posts ∷ older)
+      → reply ≡ clc_told setup payload t A older → posts ≡ asked setup payload older (ClcEvent t A) reply → LeadsOn setup payload (entry-of actor (ClcEvent t A) reply posts) older
   on-a-proposal stage reply posts w at suit r p = by_verdict (on-proposal setup one payload older stage w.link (proposal setup))
     where
       taken : (step : ClcStep) → on_proposal false (proposal setup) (lacks setup payload B older) ≡ step → Takes setup payload t A older (ProposalMessage (proposal setup)) step
       taken step e = is-taken setup payload Proposed t A older (ProposalMessage (proposal setup)) step at refl refl e
 
-      begin : IsWorld setup NoLink older → (q : Place) → IsFree setup payload B older q → on_proposal false (proposal setup) (lacks setup payload B older) ≡ SendAccept true → Goes setup (entry-of actor (ClcEvent t A) reply posts ∷ older)
+      begin : IsWorld setup NoLink older → (q : Place) → IsFree setup payload B older q → on_proposal false (proposal setup) (lacks setup payload B older) ≡ SendAccept true → LeadsOn setup payload (entry-of actor (ClcEvent t A) reply posts) older
       begin w2 q free e =
           let k = taken (SendAccept true) e in
           let told : reply ≡ Sent AcceptSent = r ∙ k.reply in
@@ -196,6 +192,7 @@ module _ (setup : Setup) (one : IsOneLink setup) (payload : List ℕ) (actor t :
           p ∙ (ap (λ (x : Reply). asked setup payload older (ClcEvent t A) x) told ∙ (k.posts ∙ ap (λ (l : LinkId). accept_post setup payload t true l older ∷ []) (first-link setup older one.links w2.link))) in
           is-this A reply (Sent AcceptSent) posts (Clc B t (Some the_link) (AcceptMessage o) ∷ []) told given (record {
             stage = Begun t;
+            begins = by-side (λ x. Begins setup payload x (entry-of actor (ClcEvent t A) (Sent AcceptSent) (Clc B t (Some the_link) (AcceptMessage o) ∷ [])) older) (BeginsNone refl) (BeginsOne t A o refl refl (at.offer B) (new-place setup payload B true NoLink older q w2.link free) refl);
             world = clc-world setup actor t A (Sent AcceptSent) (Clc B t (Some the_link) (AcceptMessage o) ∷ []) older NoLink (Begun t) w2 (begins-link setup actor t older o w2.link i)
                 (by-side (λ x. ((peer x (fabric_at NoLink)).group ≡ 0) ⊎ ((peer x (fabric_at NoLink)).group ≡ (peer x (fabric_at (Begun t))).group)) (inl refl) (inl refl))
                 Proposed (FirstAccepted o) at (accepts-first setup actor t older same o i) (ap (λ b. if b then true else false) same)
@@ -203,7 +200,7 @@ module _ (setup : Setup) (one : IsOneLink setup) (payload : List ℕ) (actor t :
                 (by-side (λ x. has_not_lent x (Begun t) ≡ true → (has_not_lent x NoLink ≡ true) × (filter_map (lends x) (Clc B t (Some the_link) (AcceptMessage o) ∷ []) ≡ [])) (λ h. (refl, refl)) (λ h. cc));
           })
 
-      join : (u : ℕ) → IsWorld setup (LiveAtBoth u) older → suits (LiveAtBoth u) t Proposed ≡ true → (q : Place) → IsFree setup payload B older q → on_proposal false (proposal setup) (lacks setup payload B older) ≡ SendAccept false → Goes setup (entry-of actor (ClcEvent t A) reply posts ∷ older)
+      join : (u : ℕ) → IsWorld setup (LiveAtBoth u) older → suits (LiveAtBoth u) t Proposed ≡ true → (q : Place) → IsFree setup payload B older q → on_proposal false (proposal setup) (lacks setup payload B older) ≡ SendAccept false → LeadsOn setup payload (entry-of actor (ClcEvent t A) reply posts) older
       join u w2 suit2 q free e =
           let k = taken (SendAccept false) e in
           let told : reply ≡ Sent AcceptSent = r ∙ k.reply in
@@ -213,6 +210,7 @@ module _ (setup : Setup) (one : IsOneLink setup) (payload : List ℕ) (actor t :
           p ∙ (ap (λ (x : Reply). asked setup payload older (ClcEvent t A) x) told ∙ (k.posts ∙ ap (λ (l : LinkId). accept_post setup payload t false l older ∷ []) (later-link setup payload older u w2.link))) in
           is-this A reply (Sent AcceptSent) posts (Clc B t (Some the_link) (AcceptMessage o) ∷ []) told given (record {
             stage = LiveAtBoth u;
+            begins = by-side (λ x. Begins setup payload x (entry-of actor (ClcEvent t A) (Sent AcceptSent) (Clc B t (Some the_link) (AcceptMessage o) ∷ [])) older) (BeginsNone refl) (BeginsOne t A o refl refl (at.offer B) (new-place setup payload B false (LiveAtBoth u) older q w2.link free) refl);
             world = clc-world setup actor t A (Sent AcceptSent) (Clc B t (Some the_link) (AcceptMessage o) ∷ []) older (LiveAtBoth u) (LiveAtBoth u) w2
                 (link-still setup actor t A (Sent AcceptSent) (Clc B t (Some the_link) (AcceptMessage o) ∷ []) older (LiveAtBoth u) w2.link (still-accept t older (fabric_at (LiveAtBoth u)) o refl))
                 (keeps-same (LiveAtBoth u))
@@ -221,12 +219,13 @@ module _ (setup : Setup) (one : IsOneLink setup) (payload : List ℕ) (actor t :
                 (by-side (λ x. has_not_lent x (LiveAtBoth u) ≡ true → (has_not_lent x (LiveAtBoth u) ≡ true) × (filter_map (lends x) (Clc B t (Some the_link) (AcceptMessage o) ∷ []) ≡ [])) (λ h. cc) (λ h. cc));
           })
 
-      by_verdict : OnProposal stage (length (free_places setup payload B older) == 0) (on_proposal false (proposal setup) (lacks setup payload B older)) → Goes setup (entry-of actor (ClcEvent t A) reply posts ∷ older)
+      by_verdict : OnProposal stage (length (free_places setup payload B older) == 0) (on_proposal false (proposal setup) (lacks setup payload B older)) → LeadsOn setup payload (entry-of actor (ClcEvent t A) reply posts) older
       by_verdict (refuses lack e) =
           let k = taken (Decline lack) e in
           let told : reply ≡ Declined lack = r ∙ k.reply in
           is-this A reply (Declined lack) posts (Clc B t None (DeclineMessage (refusal B lack)) ∷ []) told (p ∙ (ap (λ (x : Reply). asked setup payload older (ClcEvent t A) x) told ∙ k.posts)) (record {
             stage = stage;
+            begins = by-side (λ x. Begins setup payload x (entry-of actor (ClcEvent t A) (Declined lack) (Clc B t None (DeclineMessage (refusal B lack)) ∷ [])) older) (BeginsNone refl) (BeginsNone refl);
             world = clc-world setup actor t A (Declined lack) (Clc B t None (DeclineMessage (refusal B lack)) ∷ []) older stage stage w
                 (link-still setup actor t A (Declined lack) (Clc B t None (DeclineMessage (refusal B lack)) ∷ []) older stage w.link (still-refusal-b t older (fabric_at stage) lack (refusal B lack)))
                 (keeps-same stage) Proposed (Refused (refusal B lack)) at (refuses-proposal setup actor t older same lack (refusal B lack)) (unoffered-alike stage t Proposed (Refused (refusal B lack)) refl refl suit)

@@ -1,6 +1,7 @@
 pub mod Agreement
 pub mod Connection
 pub mod Managers
+pub mod Lent
 pub mod OneLink
 pub mod Played
 pub mod Sockets

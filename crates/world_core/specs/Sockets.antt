@@ -188,3 +188,8 @@ pub record IsWorld (setup : Setup) (stage : Stage) (past : List Entry) : Type 0 
   pub link : IsAtStage setup stage past
   pub sockets : (s : ℕ) → HasSocket setup stage s past
   pub unlent : (x : Side) → has_not_lent x stage ≡ true → lendings x past ≡ []
+
+-- after a history the link and all sockets are somewhere
+pub record HasWorld (setup : Setup) (past : List Entry) : Type 0 where
+  pub stage : Stage
+  pub world : IsWorld setup stage past

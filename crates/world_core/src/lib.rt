@@ -10,9 +10,19 @@
 #![tactic(auto)]
 
 mod connection;
+<<<<<<< HEAD
 mod wire_laws;
+=======
+mod laws;
+>>>>>>> 453b12f7c469945b27ffb7d06cee60c51b296d64
 mod world;
 
+pub use laws::{
+    a_lending_is_where_an_offer_is, an_end_that_is_up_has_offers, an_end_that_is_up_knows_the_key,
+    ends_are_at_the_step_of_their_socket, lendings_are_apart, lendings_are_few, no_group_ends,
+    no_message_waits_for_an_end_that_is_up, the_link_and_the_sockets_are_somewhere,
+    the_link_is_not_dead, tokens_tell_sockets_apart,
+};
 pub use pipe_model::StepFault;
 pub use wire_laws::{
     no_end_closes, posts_on_a_wire_stand_in_the_history, what_completes_is_next_to_complete,
