@@ -1,44 +1,42 @@
 -- Wires and pipes go on agreeing with each entry of a played history.
-use Rattle.std.proofs.Common.{◌≡◌, ◌∙◌, ◌==◌, ◌⊎◌, inl, inr, ℕ, ◌+◌, ◌-◌, ◌≤◌, ◌<◌, Bool, true, false, if◌then◌else◌, List, [], ◌∷◌, ◌++◌, length, take, drop, map, filter_map, refl, ap, sym, subst, ◌&&◌, true≢false, arith, append-nil, append_assoc, suc, zero, not}
-use Rattle.std.specs.Prelude.{Option, Some, None, is_some, unwrap_or}
+use Rattle.std.proofs.Common.{◌≡◌, ◌∙◌, ◌==◌, inl, inr, ℕ, true, if◌then◌else◌, List, [], ◌∷◌, ◌++◌, length, drop, map, filter_map, refl, ap, sym, subst, true≢false, suc, zero, not}
+use Rattle.std.specs.Prelude.{Option, Some, None, is_some}
 use Rattle.std.specs.List.{cons_option}
 use Rattle.std.proofs.lemmas.List.Elements.{filter_map-append}
-use Rattle.std.proofs.Math.ListN.{drop_of_length-le}
 use Rattle.smc_num.specs.declared.Side.{Side}
 use Rattle.smc_num.specs.declared.Side.TheVariants.{A, B}
 use Rattle.smc_num.specs.Names.{other, head}
 use Rattle.cdc_wire.specs.declared.CdcMessage.{CdcMessage}
 use Rattle.pipe_model.specs.declared.setup.Setup.{Setup}
-use Rattle.pipe_model.specs.declared.post.Post.{Post}
 use Rattle.pipe_model.specs.declared.entry.Entry.{Entry}
 use Rattle.pipe_model.specs.declared.sent.Sent.{Sent}
 use Rattle.pipe_model.specs.Words.{element_size}
-use Rattle.pipe_model.specs.History.{Offered, offered, post_at}
+use Rattle.pipe_model.specs.History.{Offered, offered}
 use Rattle.pipe_model.specs.Fabric.{fabric, after}
 use Rattle.pipe_model.specs.Wires.{unlanded, uncompleted}
-use Rattle.pipe_model.specs.Ends.{Half, to_land, to_complete}
-use Rattle.pipe_model.specs.Pipe.{Terms, Item, Fate, GroupEnd, Up, Calls, Lands, Completes, half, pipe, posts_of, sent_since}
+use Rattle.pipe_model.specs.Ends.{Half}
+use Rattle.pipe_model.specs.Pipe.{Terms, Item, Fate, GroupEnd, Up, Calls, Lands, Completes, half, pipe, posts_of}
 use Rattle.pipe_model.specs.Parts.{EachOf, IsMarked}
-use Rattle.pipe_model.specs.Connections.{group_on, is_up, comes_up, deeds, if_own, items, part}
-use Rattle.pipe_model.specs.Lending.{terms_of, pipe_of}
+use Rattle.pipe_model.specs.Connections.{group_on, deeds, if_own, items, part}
+use Rattle.pipe_model.specs.Lending.{terms_of}
 use Rattle.pipe_model.specs.Posts.{is_offered, connection_posts}
-use Rattle.pipe_model.specs.Lawful.{draft, asked}
+use Rattle.pipe_model.specs.Lawful.{draft}
 use Rattle.pipe_model.proofs.Facts.{is-marked}
 use Rattle.world_core.specs.Played.{IsMade, IsPlayed}
 use Rattle.world_core.specs.OneLink.{the_link}
-use Rattle.world_core.specs.Wired.{cdc_under, cdcs, message, returning, IsCarried, HasGone, EachItem, EachUpOn, passes_by, keeps_open, IsOnLink}
-use Rattle.world_core.specs.WireSteps.{Stays, LandsNow, CompletesNow, Way, IsCdcOn, EachPost}
+use Rattle.world_core.specs.Wired.{cdc_under, cdcs, message, IsCarried, HasGone, EachItem, passes_by, keeps_open, IsOnLink}
+use Rattle.world_core.specs.WireSteps.{LandsNow, CompletesNow, Way, IsCdcOn, EachPost}
 use Rattle.world_core.specs.Agreement.{IsOnlyLink, HasOffers, GoesOn, IsShaken, IsElse, CarriesNoStranger, CanBe, Agree}
 use Rattle.world_core.proofs.DataPosts.{unseen-after, connections-data}
 use Rattle.world_core.proofs.Growth.{since-more}
-use Rattle.world_core.proofs.Idle.{all-passed-by, idle, on-link}
+use Rattle.world_core.proofs.Idle.{all-passed-by, on-link}
 use Rattle.world_core.proofs.Carrying.{stays-unlanded, stays-uncompleted, lands-unlanded, lands-uncompleted, completes-unlanded, completes-uncompleted}
 use Rattle.world_core.proofs.Carried.{carried-stays, carried-passes, carried-lands, carried-leaves, carried-completes, next-lands, next-completes, some-left}
 use Rattle.world_core.proofs.PipePosts.{given, nothing-strange, own-posted, on-append as posts-append, pipes-on}
 use Rattle.world_core.proofs.Places.{unlanded-stand, uncompleted-stand, first-stands}
 use Rattle.world_core.proofs.Ways.{way}
 use Rattle.world_core.proofs.EntryItems.{each-append, each-more, on-append, is_fate_or_up, fate-or-up-passes, below, below-calm, items-are, items-open, items-on, same-items}
-use Rattle.world_core.proofs.Parts.{part-open, part-on, up-is, up-offered, comes-not-up}
+use Rattle.world_core.proofs.Parts.{part-open, part-on}
 use Rattle.world_core.proofs.Feasible.{is_no_message, can-more, can-land, can-complete, has-returning}
 use Rattle.world_core.proofs.AskedPosts.{asked-no-cdc, none-under, none-else}
 use Rattle.world_core.proofs.Own.{own-none, own-some, IsOrNot, Is, IsNot, is-or-not, grouped, tokens-else, gone-below, gone-lands, gone-completes, room-below, later-below}

@@ -1,8 +1,7 @@
 -- Wires and pipes agree in every played history.
-use Rattle.std.proofs.Common.{◌≡◌, ◌∙◌, ◌==◌, ℕ, ◌-◌, Bool, true, false, List, [], ◌∷◌, ◌++◌, take, drop, map, refl, ap, sym, subst, ◌||◌, true≢false, eqb-true, suc, zero}
+use Rattle.std.proofs.Common.{◌≡◌, ◌∙◌, ◌==◌, ℕ, ◌-◌, Bool, true, false, List, [], ◌∷◌, take, drop, map, refl, ap, sym, subst, ◌||◌, true≢false, eqb-true, suc, zero}
 use Rattle.std.specs.Prelude.{Option, Some, None, is_some, unwrap_or}
 use Rattle.smc_num.specs.declared.Side.{Side}
-use Rattle.smc_num.specs.declared.Side.TheVariants.{A, B}
 use Rattle.smc_num.specs.Names.{other}
 use Rattle.pipe_model.specs.declared.setup.Setup.{Setup}
 use Rattle.pipe_model.specs.declared.entry.Entry.{Entry}
@@ -10,14 +9,13 @@ use Rattle.pipe_model.specs.declared.sent.Sent.{Sent}
 use Rattle.pipe_model.specs.Words.{element_size}
 use Rattle.pipe_model.specs.History.{Offered, offered}
 use Rattle.pipe_model.specs.Ends.{Half, to_land, to_complete}
-use Rattle.pipe_model.specs.Pipe.{Item, half, pipe}
-use Rattle.pipe_model.specs.Wires.{unlanded, uncompleted}
-use Rattle.pipe_model.specs.Connections.{is_up, comes_up, part}
+use Rattle.pipe_model.specs.Pipe.{half}
+use Rattle.pipe_model.specs.Connections.{is_up, part}
 use Rattle.pipe_model.specs.Lending.{terms_of, pipe_of}
 use Rattle.world_core.specs.Played.{IsMade, IsPlayed}
 use Rattle.world_core.specs.OneLink.{the_link}
-use Rattle.world_core.specs.Wired.{cdcs, message, returning, IsCarried}
-use Rattle.world_core.specs.Agreement.{IsOnlyLink, HasOffers, GoesOn, IsShaken, IsElse, CarriesNoStranger, CanBe, Agree}
+use Rattle.world_core.specs.Wired.{message, returning, IsCarried}
+use Rattle.world_core.specs.Agreement.{IsOnlyLink, HasOffers, GoesOn, IsShaken, IsElse, Agree}
 use Rattle.world_core.proofs.Idle.{idle}
 use Rattle.world_core.proofs.Parts.{part-open, up-is, up-offered, comes-not-up}
 use Rattle.world_core.proofs.Agreed.{strange-step, carried-step, can-step}

@@ -1,5 +1,5 @@
 -- Handshake and flows post CLC and LLC messages alone.
-use Rattle.std.proofs.Common.{◌≡◌, ◌∙◌, ◌==◌, ℕ, ◌&&◌, not, Bool, true, false, if◌then◌else◌, List, [], ◌∷◌, ◌++◌, length, filter_map, refl, ap, sym, subst}
+use Rattle.std.proofs.Common.{◌≡◌, ◌==◌, ℕ, ◌&&◌, not, Bool, true, false, if◌then◌else◌, List, [], ◌∷◌, ◌++◌, length, filter_map, refl}
 use Rattle.std.specs.Prelude.{Option, Some, None, option_map}
 use Rattle.smc_num.specs.declared.Side.{Side}
 use Rattle.smc_num.specs.declared.LinkId.{LinkId}
@@ -8,7 +8,6 @@ use Rattle.smc_num.specs.Keys.{Key}
 use Rattle.clc_wire.specs.declared.message.ClcMessage.{ClcMessage}
 use Rattle.clc_wire.specs.declared.message.ClcMessage.TheVariants.{Proposal as ProposalMessage, Accept as AcceptMessage, Confirm as ConfirmMessage, Decline as DeclineMessage}
 use Rattle.llc_wire.specs.declared.LlcMessage.{LlcMessage}
-use Rattle.cdc_wire.specs.declared.CdcMessage.{CdcMessage}
 use Rattle.pipe_model.specs.declared.flow.KeyPhase.{KeyPhase}
 use Rattle.pipe_model.specs.declared.flow.KeyPhase.TheVariants.{Free, Asked, Retry as RetryWaits, Deleting}
 use Rattle.pipe_model.specs.declared.verdict.ClcStep.{ClcStep}
@@ -17,7 +16,7 @@ use Rattle.pipe_model.specs.declared.flow.FlowStep.{FlowStep}
 use Rattle.pipe_model.specs.declared.flow.FlowStep.TheVariants.{Skip, Live, SendKeys, Over, AskLink, ReplyKeys, ReplyAdd, Reject, Confirmed, Retry, Withdraw, ReplyRetry, Learn, Forget, Gone, Answered, Echo}
 use Rattle.pipe_model.specs.declared.setup.Setup.{Setup}
 use Rattle.pipe_model.specs.declared.event.Event.{Event}
-use Rattle.pipe_model.specs.declared.event.Event.TheVariants.{Open, Raw, Write, Read, Finish, Close, Abort, Await, Clc as ClcEvent, Deliver, Complete, Swallow, Cut, Heal, Report, Move, Grow, Test, Trim}
+use Rattle.pipe_model.specs.declared.event.Event.TheVariants.{Open, Write, Read, Clc as ClcEvent, Deliver, Complete}
 use Rattle.pipe_model.specs.declared.reply.Reply.{Reply}
 use Rattle.pipe_model.specs.declared.reply.Reply.TheVariants.{Idle, Opened}
 use Rattle.pipe_model.specs.declared.post.Post.{Post}
@@ -28,7 +27,7 @@ use Rattle.pipe_model.specs.Flows.{Flow, LinkFlow, NoFlow, FirstContact, AddSent
 use Rattle.pipe_model.specs.Fabric.{Peer, Act, act_of, loses, flow_of}
 use Rattle.pipe_model.specs.Fallback.{Front, NoMessage, Faulty, Whole, front}
 use Rattle.pipe_model.specs.Keys.{Keys, keys_of}
-use Rattle.pipe_model.specs.Posts.{clc_posts, ready_posts, step_posts, report_posts, loss_posts, drop_posts, key_again, add_again, peer_of, deleting_rmbs, accept_post, first_link, fewest}
+use Rattle.pipe_model.specs.Posts.{clc_posts, ready_posts, step_posts, loss_posts, drop_posts, key_again, add_again, peer_of, deleting_rmbs}
 use Rattle.pipe_model.specs.Replies.{clc_step}
 use Rattle.pipe_model.specs.Lawful.{front_posts, act_posts, asked}
 use Rattle.world_core.specs.Played.{IsBuilt}
@@ -71,13 +70,33 @@ of-front setup payload x s past NoMessage = tt
 of-front setup payload x s past (Faulty fault) = tt
 of-front setup payload x s past (Whole m len) = of-verdict setup payload x s m past (clc_step setup payload x s m past)
 
-of-key : (x : Side) (p : Peer) (keys : List Key) (rmbs : List ℕ) (phase : KeyPhase) → IsNoCdc (key_again x p keys rmbs phase)
+-- that a post is an LLC message
+abbrev pub IsLlc : Post → Type 0
+IsLlc (Llc from link m) = Unit {0}
+IsLlc _ = ⊥
+
+append-llc : (ps qs : List Post) → EachPost IsLlc ps → EachPost IsLlc qs → EachPost IsLlc (ps ++ qs)
+append-llc [] qs p q = q
+append-llc (post ∷ ps) qs p q = (p.0, append-llc ps qs p.1 q)
+
+pub either-llc : (b : Bool) (ps qs : List Post) → EachPost IsLlc ps → EachPost IsLlc qs → EachPost IsLlc (if b then ps else qs)
+either-llc true ps qs p q = p
+either-llc false ps qs p q = q
+
+llc-no-cdc : (posts : List Post) → EachPost IsLlc posts → EachPost IsNoCdc posts
+llc-no-cdc [] p = tt
+llc-no-cdc (Llc from link m ∷ posts) p = (tt, llc-no-cdc posts p.1)
+llc-no-cdc (WritePost from link key address len ∷ posts) p = absurd p.0
+llc-no-cdc (Cdc from link m ∷ posts) p = absurd p.0
+llc-no-cdc (Clc from s link m ∷ posts) p = absurd p.0
+
+of-key : (x : Side) (p : Peer) (keys : List Key) (rmbs : List ℕ) (phase : KeyPhase) → IsLlc (key_again x p keys rmbs phase)
 of-key x p keys rmbs Free = tt
 of-key x p keys rmbs Asked = tt
 of-key x p keys rmbs RetryWaits = tt
 of-key x p keys rmbs Deleting = tt
 
-of-add : (x : Side) (p : Peer) (ks : Keys) (qp : ℕ) (flow : LinkFlow) → EachPost IsNoCdc (add_again x p ks qp flow)
+of-add : (x : Side) (p : Peer) (ks : Keys) (qp : ℕ) (flow : LinkFlow) → EachPost IsLlc (add_again x p ks qp flow)
 of-add x p ks qp NoFlow = tt
 of-add x p ks qp FirstContact = tt
 of-add x p ks qp (AddSent k on) = (tt, tt)
@@ -86,13 +105,21 @@ of-add x p ks qp (LinkSent k) = tt
 of-add x p ks qp (Abandoned on) = tt
 of-add x p ks qp (AddSeen k) = tt
 
+<<<<<<< HEAD
 of-loss : (x : Side) (k : ℕ) (own : Bool) (p : Peer) (before : Flow) (past : List Entry) → EachPost IsNoCdc (loss_posts x k own p before past)
 of-loss x k own p before past = either (p.group == 0) _ _ tt
     (append (drop_posts x k own p ++ (if resends_key k before then key_again x p (keys_of x past).keys (deleting_rmbs x past) before.key ∷ [] else [])) _
     (append (drop_posts x k own p) _ (either (own && not (is_dropping k p.flow)) _ _ (tt, tt) tt) (either (resends_key k before) _ _ (of-key x p (keys_of x past).keys (deleting_rmbs x past) before.key, tt) tt))
     (either (resends_add k before.link) _ _ (of-add x p (keys_of x past) _ before.link) tt))
+=======
+of-loss : (x : Side) (k : ℕ) (own : Bool) (p : Peer) (before : Flow) (past : List Entry) → EachPost IsLlc (loss_posts x k own p before past)
+of-loss x k own p before past = either-llc (p.group == 0) _ _ tt
+    (append-llc (drop_posts x k own p ++ (if resends_key k before then key_again x p (keys_of x past).keys (deleting_rmbs x past) before.key ∷ [] else [])) _
+    (append-llc (drop_posts x k own p) _ (either-llc (own && not (is_dropping k p.flow)) _ _ (tt, tt) tt) (either-llc (resends_key k before) _ _ (of-key x p (keys_of x past).keys (deleting_rmbs x past) before.key, tt) tt))
+    (either-llc (resends_add k before.link) _ _ (of-add x p (keys_of x past) _ before.link) tt))
+>>>>>>> 2056b2e94817a19fd211fb5864c182f776627efb
 
-of-step : (setup : Setup) (x : Side) (on : LinkId) (m : LlcMessage) (past : List Entry) (step : FlowStep) → EachPost IsNoCdc (step_posts setup x on m past step)
+of-step : (setup : Setup) (x : Side) (on : LinkId) (m : LlcMessage) (past : List Entry) (step : FlowStep) → EachPost IsLlc (step_posts setup x on m past step)
 of-step setup x on m past Skip = tt
 of-step setup x on m past (Live true first) = (tt, tt)
 of-step setup x on m past (Live false first) = tt
@@ -109,11 +136,11 @@ of-step setup x on m past Withdraw = tt
 of-step setup x on m past ReplyRetry = (tt, tt)
 of-step setup x on m past Learn = (tt, tt)
 of-step setup x on m past Forget = (tt, tt)
-of-step setup x on m past (Gone report) = (tt, either report _ _ (of-loss x (named_slot m on.slot) false (loses (named_slot m on.slot) (peer_of x past)) (flow_of x past) past) tt)
+of-step setup x on m past (Gone report) = (tt, either-llc report _ _ (of-loss x (named_slot m on.slot) false (loses (named_slot m on.slot) (peer_of x past)) (flow_of x past) past) tt)
 of-step setup x on m past Answered = tt
 of-step setup x on m past Echo = (tt, tt)
 
-of-act : (setup : Setup) (x : Side) (past : List Entry) (o : Option Act) → EachPost IsNoCdc (act_posts setup x past o)
+pub of-act : (setup : Setup) (x : Side) (past : List Entry) (o : Option Act) → EachPost IsLlc (act_posts setup x past o)
 of-act setup x past None = tt
 of-act setup x past (Some act) = of-step setup x act.link act.message past act.step
 
@@ -125,7 +152,7 @@ asked-no-cdc setup payload past (ClcEvent s dir) Idle b = tt
 asked-no-cdc setup payload past (ClcEvent s dir) reply b = of-front setup payload (other dir) s past (front payload dir s past)
 asked-no-cdc setup payload past (Write end at len) reply b = tt
 asked-no-cdc setup payload past (Read end len) reply b = tt
-asked-no-cdc setup payload past (Deliver slot dir) reply b = of-act setup (other dir) past (act_of (other dir) (option_map (λ c. c.post) (landing slot dir past)) past)
+asked-no-cdc setup payload past (Deliver slot dir) reply b = llc-no-cdc _ (of-act setup (other dir) past (act_of (other dir) (option_map (λ c. c.post) (landing slot dir past)) past))
 asked-no-cdc setup payload past (Complete slot dir) reply b = tt
 asked-no-cdc setup payload past _ reply b = absurd b
 

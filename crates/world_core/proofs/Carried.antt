@@ -1,18 +1,16 @@
 -- What a wire carries under a token stays what the end has under way, whatever an entry does to both.
-use Rattle.std.proofs.Common.{◌≡◌, ◌∙◌, ◌==◌, ℕ, ◌+◌, ◌-◌, ◌≤◌, ◌<◌, Bool, true, false, if◌then◌else◌, List, [], ◌∷◌, ◌++◌, length, take, drop, map, filter, filter_map, refl, ap, sym, subst, ◌&&◌, true≢false, append-nil, arith, take-add, suc, zero, drop-drop, length-drop, length-append}
-use Rattle.std.specs.Prelude.{Option, Some, None, is_some, cond, unwrap_or}
+use Rattle.std.proofs.Common.{◌≡◌, ◌∙◌, ℕ, ◌+◌, ◌-◌, ◌≤◌, ◌<◌, List, [], ◌∷◌, ◌++◌, length, take, drop, map, filter_map, refl, ap, sym, true≢false, append-nil, arith, take-add, suc, zero, drop-drop, length-drop}
+use Rattle.std.specs.Prelude.{Some, None, is_some, unwrap_or}
 use Rattle.std.specs.List.{cons_option}
 use Rattle.std.proofs.lemmas.List.{map-append, drop-append-le, take-append-le}
 use Rattle.smc_num.specs.declared.Side.{Side}
 use Rattle.smc_num.specs.declared.LinkId.{LinkId}
 use Rattle.smc_num.specs.Names.{head}
 use Rattle.cdc_wire.specs.declared.CdcMessage.{CdcMessage}
-use Rattle.pipe_model.specs.declared.post.Post.{Post}
-use Rattle.pipe_model.specs.declared.post.Placed.{Placed}
 use Rattle.pipe_model.specs.declared.entry.Entry.{Entry}
 use Rattle.pipe_model.specs.declared.sent.Sent.{Sent}
 use Rattle.pipe_model.specs.Wires.{unlanded, uncompleted}
-use Rattle.pipe_model.specs.Ends.{Half, to_land, to_complete}
+use Rattle.pipe_model.specs.Ends.{Half, to_land}
 use Rattle.pipe_model.specs.Parts.{IsMarked}
 use Rattle.world_core.specs.Wired.{cdc_under, cdcs, message, returning, IsCarried, HasGone}
 use Rattle.world_core.specs.WireSteps.{Stays, LandsNow, CompletesNow, IsCdcOn, EachPost}

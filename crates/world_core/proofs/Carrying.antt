@@ -1,27 +1,21 @@
 -- A wire and an end keep step: what is posted comes behind, what lands goes over from one list to the other, what completes leaves.
-use Rattle.std.proofs.Common.{◌≡◌, ◌∙◌, ◌==◌, ℕ, ◌+◌, ◌-◌, ◌≤◌, ◌<◌, Bool, true, false, if◌then◌else◌, List, [], ◌∷◌, ◌++◌, length, take, drop, map, filter, filter_map, refl, ap, sym, subst, ◌&&◌, true≢false, append-nil, arith, take-add, suc, zero, drop-drop, length-drop, length-append}
-use Rattle.std.specs.Prelude.{Option, Some, None, is_some, cond, unwrap_or}
+use Rattle.std.proofs.Common.{◌≡◌, ◌∙◌, ◌==◌, ℕ, ◌+◌, Bool, true, false, List, [], ◌∷◌, ◌++◌, take, drop, map, filter, filter_map, refl, ap, sym, ◌&&◌, true≢false, append-nil}
+use Rattle.std.specs.Prelude.{None, cond}
 use Rattle.std.specs.List.{cons_option}
 use Rattle.std.proofs.lemmas.Bool.{eq-eqb}
-use Rattle.std.proofs.lemmas.List.{map-append, drop-append-le, take-append-le}
+use Rattle.std.proofs.lemmas.List.{map-append}
 use Rattle.std.proofs.lemmas.List.Elements.{filter_map-append}
 use Rattle.smc_num.specs.declared.Side.{Side}
-use Rattle.smc_num.specs.declared.Side.TheVariants.{A, B}
 use Rattle.smc_num.specs.declared.LinkId.{LinkId}
-use Rattle.smc_num.specs.Names.{same_side, same_link, head}
+use Rattle.smc_num.specs.Names.{same_side, same_link}
 use Rattle.cdc_wire.specs.declared.CdcMessage.{CdcMessage}
 use Rattle.pipe_model.specs.declared.post.Post.{Post}
 use Rattle.pipe_model.specs.declared.post.Post.TheVariants.{Write, Cdc, Llc, Clc}
-use Rattle.pipe_model.specs.declared.post.PostRef.{PostRef}
 use Rattle.pipe_model.specs.declared.post.Placed.{Placed}
 use Rattle.pipe_model.specs.declared.entry.Entry.{Entry}
-use Rattle.pipe_model.specs.declared.sent.Sent.{Sent}
-use Rattle.pipe_model.specs.Words.{passes}
 use Rattle.pipe_model.specs.History.{next_number, numbered}
 use Rattle.pipe_model.specs.Wires.{is_on, completes_later, unlanded, uncompleted}
-use Rattle.pipe_model.specs.Ends.{Half, to_land, to_complete}
-use Rattle.pipe_model.specs.Parts.{IsMarked}
-use Rattle.world_core.specs.Wired.{cdc_under, if_meant, cdcs, message, returning, IsCarried, HasGone}
+use Rattle.world_core.specs.Wired.{cdc_under, if_meant, cdcs}
 use Rattle.world_core.specs.WireSteps.{leaving, landing_now, completing_now, Stays, LandsNow, CompletesNow, IsCdcOn, EachPost}
 
 pub drop-none : {X : Type 0} (xs : List X) → drop 0 xs ≡ xs

@@ -139,11 +139,11 @@ unseen-after (Test x slot) (Sent TestSent) ps more past f a = refl
 unseen-after _ _ ps more past f a = refl
 
 -- the rest
-no-offer : (x : Side) (s : ℕ) (p : Post) → is_data p ≡ true → offer_in x s p ≡ None
+pub no-offer : (x : Side) (s : ℕ) (p : Post) → is_data p ≡ true → offer_in x s p ≡ None
 no-offer A s = by-data (λ p. offer_in A s p ≡ None) (λ from link key address len. refl) (λ from link m. refl)
 no-offer B s = by-data (λ p. offer_in B s p ≡ None) (λ from link key address len. refl) (λ from link m. refl)
 
-no-lending : (x : Side) (p : Post) → is_data p ≡ true → lends x p ≡ None
+pub no-lending : (x : Side) (p : Post) → is_data p ≡ true → lends x p ≡ None
 no-lending A = by-data (λ p. lends A p ≡ None) (λ from link key address len. refl) (λ from link m. refl)
 no-lending B = by-data (λ p. lends B p ≡ None) (λ from link key address len. refl) (λ from link m. refl)
 

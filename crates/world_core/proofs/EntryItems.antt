@@ -1,6 +1,6 @@
 -- The items that an entry gives a connection: fates and establishments, and at most one call, landing or completion.
-use Rattle.std.proofs.Common.{◌≡◌, ◌∙◌, ◌==◌, ◌⊎◌, inl, inr, ℕ, ◌+◌, Bool, true, false, if◌then◌else◌, List, [], ◌∷◌, ◌++◌, length, take, drop, reverse, filter_map, refl, ap, sym, subst, ◌&&◌, ◌||◌, not, true≢false, append-nil, append_assoc}
-use Rattle.std.specs.Prelude.{Option, Some, None, is_some, option_and_then, option_map, option_to_list, unwrap_or}
+use Rattle.std.proofs.Common.{◌≡◌, ◌∙◌, ◌==◌, ℕ, Bool, true, false, if◌then◌else◌, List, [], ◌∷◌, ◌++◌, length, take, drop, reverse, filter_map, refl, ap, sym, subst, ◌&&◌, not, true≢false, append-nil, append_assoc}
+use Rattle.std.specs.Prelude.{Option, Some, None, option_and_then, option_map, option_to_list}
 use Rattle.std.specs.List.{cons_option}
 use Rattle.std.specs.Option.{option_or}
 use Rattle.std.proofs.lemmas.List.{reverse-append}
@@ -9,17 +9,16 @@ use Rattle.smc_num.specs.declared.Side.TheVariants.{A, B}
 use Rattle.smc_num.specs.declared.LinkId.{LinkId}
 use Rattle.smc_num.specs.declared.LinkPhase.{LinkPhase}
 use Rattle.smc_num.specs.Links.{Known, same_phase}
-use Rattle.smc_num.specs.Names.{other, same_side}
 use Rattle.pipe_model.specs.declared.setup.Setup.{Setup}
 use Rattle.pipe_model.specs.declared.event.Event.{Event}
-use Rattle.pipe_model.specs.declared.event.Event.TheVariants.{Open, Raw, Write, Read, Finish, Close, Abort, Await, Clc, Deliver, Complete, Swallow, Cut, Heal, Report, Move, Grow, Test, Trim}
+use Rattle.pipe_model.specs.declared.event.Event.TheVariants.{Open, Write, Read, Clc, Deliver, Complete}
 use Rattle.pipe_model.specs.declared.reply.Reply.{Reply}
 use Rattle.pipe_model.specs.declared.entry.Entry.{Entry}
 use Rattle.pipe_model.specs.Calls.{Writes, Reads}
-use Rattle.pipe_model.specs.Fabric.{Fabric, fabric, peer, act_by, act_in, table_of, group_of, loses_group_with}
+use Rattle.pipe_model.specs.Fabric.{Fabric, fabric, peer, act_by, table_of, group_of}
 use Rattle.pipe_model.specs.History.{offered}
 use Rattle.pipe_model.specs.Pipe.{Item, Fate, GroupEnd, Up, Calls, Lands, Completes}
-use Rattle.pipe_model.specs.Connections.{is_fate, phase_of, fate_of, fates, group_end, ups, up_by, confirmed_by, comes_up, deeds, items, part, landed_at, completed_at}
+use Rattle.pipe_model.specs.Connections.{is_fate, phase_of, fate_of, fates, group_end, ups, up_by, confirmed_by, comes_up, deeds, items, landed_at, completed_at}
 use Rattle.world_core.specs.Played.{IsBuilt}
 use Rattle.world_core.specs.OneLink.{the_link}
 use Rattle.world_core.specs.Wired.{EachItem, EachUpOn, passes_by, keeps_open}
@@ -62,7 +61,7 @@ fate-or-up-open (Lands y) e = absurd (true≢false (sym e))
 fate-or-up-open (Completes y) e = absurd (true≢false (sym e))
 
 -- fates alone
-abbrev is_a_fate : Item → Bool
+abbrev pub is_a_fate : Item → Bool
 is_a_fate (Fate x link phase) = true
 is_a_fate _ = false
 
@@ -73,6 +72,17 @@ one-fate false x known is p = p
 only-fates : (x : Side) (group : ℕ) (before table : List Known) → EachItem is_a_fate (filter_map (fate_of x group before) table)
 only-fates x group before [] = tt
 only-fates x group before (known ∷ table) = one-fate ((known.link.group == group) && (is_fate known.phase && not (same_phase known.phase (phase_of known.link before)))) x known _ (only-fates x group before table)
+
+pub fates-only : (test : Item → Bool) (x : Side) (group : ℕ) (e : Entry) (past : List Entry) → ((link : LinkId) (phase : LinkPhase) → test (Fate x link phase) ≡ true) → EachItem test (fates x group e past)
+fates-only test x group e past f = over (table_of x (e ∷ past))
+  where
+    one-of : (b : Bool) (known : Known) (is : List Item) → EachItem test is → EachItem test (cons_option (if b then Some (Fate x known.link known.phase) else None) is)
+    one-of true known is p = (f known.link known.phase, p)
+    one-of false known is p = p
+
+    over : (table : List Known) → EachItem test (filter_map (fate_of x group (table_of x past)) table)
+    over [] = tt
+    over (known ∷ table) = one-of ((known.link.group == group) && (is_fate known.phase && not (same_phase known.phase (phase_of known.link (table_of x past))))) known _ (over table)
 
 fate-either : (item : Item) → is_a_fate item ≡ true → is_fate_or_up item ≡ true
 fate-either (Fate x link phase) e = refl

@@ -1,14 +1,14 @@
 -- A part can be as long as what lands was sent and what completes has landed; and then nothing is ever swallowed.
-use Rattle.std.proofs.Common.{◌≡◌, ◌∙◌, ◌==◌, ℕ, ◌+◌, ◌-◌, ◌≤◌, ◌<◌, Bool, true, false, if◌then◌else◌, List, [], ◌∷◌, ◌++◌, length, take, drop, refl, ap, sym, subst, ◌&&◌, ◌||◌, not, true≢false, arith, suc, zero, length-drop, length-take, ne_eqb}
+use Rattle.std.proofs.Common.{◌≡◌, ◌∙◌, ℕ, ◌+◌, ◌-◌, ◌≤◌, ◌<◌, Bool, true, false, if◌then◌else◌, List, [], ◌∷◌, ◌++◌, length, take, refl, ap, sym, ◌&&◌, ◌||◌, not, true≢false, arith, suc, zero, length-take, ne_eqb}
 use Rattle.std.specs.Prelude.{Some, is_some}
 use Rattle.smc_num.specs.declared.Side.{Side}
 use Rattle.smc_num.specs.declared.Side.TheVariants.{A, B}
 use Rattle.smc_num.specs.Names.{same_side, head}
 use Rattle.pipe_model.specs.declared.sent.Sent.{Sent}
-use Rattle.pipe_model.specs.Ends.{Half, to_land, to_complete, is_due_for_move}
-use Rattle.pipe_model.specs.Calls.{Call, Writes, Reads, Finishes, Closes, Aborts, Awaits, Moves}
+use Rattle.pipe_model.specs.Ends.{Half, is_due_for_move}
+use Rattle.pipe_model.specs.Calls.{Writes, Reads, Finishes, Closes, Aborts, Awaits, Moves}
 use Rattle.pipe_model.specs.Pipe.{Pipe, Terms, Item, Fate, GroupEnd, Up, Calls, Lands, Completes, half, pipe}
-use Rattle.pipe_model.specs.Parts.{IsFeasible, has_swallow, swallows, is_swallowed, is_broken, broken_after, actor, IsMarked}
+use Rattle.pipe_model.specs.Parts.{has_swallow, swallows, is_swallowed, is_broken, broken_after, actor}
 use Rattle.pipe_model.proofs.Facts.{is-marked}
 use Rattle.world_core.specs.Wired.{EachItem, returning}
 use Rattle.world_core.specs.Agreement.{CanBe}

@@ -1,5 +1,5 @@
 -- What an item does to the messages of an end: they grow at their end, and at most one of them lands or completes.
-use Rattle.std.proofs.Common.{◌≡◌, ◌∙◌, ℕ, ◌+◌, ◌≤◌, ◌<◌, min, max, Bool, true, false, not, if◌then◌else◌, List, [], ◌∷◌, ◌++◌, length, take, drop, refl, ap, sym, subst, ◌||◌, ◌&&◌, true≢false, append_assoc, append-nil, arith, nat_lt}
+use Rattle.std.proofs.Common.{◌≡◌, ◌∙◌, ℕ, ◌+◌, ◌<◌, min, max, Bool, true, false, if◌then◌else◌, [], ◌∷◌, ◌++◌, length, take, drop, refl, ap, sym, subst, ◌||◌, true≢false, append_assoc, append-nil, arith}
 use Rattle.std.specs.Prelude.{Option, Some, None, is_some}
 use Rattle.std.proofs.Math.Seq.{drop-append_seam}
 use Rattle.smc_num.specs.declared.Side.{Side}
@@ -7,18 +7,16 @@ use Rattle.smc_num.specs.declared.Side.TheVariants.{A, B}
 use Rattle.smc_num.specs.declared.LinkId.{LinkId}
 use Rattle.smc_num.specs.declared.LinkPhase.{LinkPhase}
 use Rattle.smc_num.specs.declared.LinkPhase.TheVariants.{Unused, Pending, Live, Dead}
-use Rattle.smc_num.specs.Names.{head, other, has_link}
+use Rattle.smc_num.specs.Names.{head}
 use Rattle.smc_num.specs.Numbers.{wire_number}
 use Rattle.pipe_model.specs.declared.reply.ResetCause.TheVariants.{PeerAbort, Gap}
 use Rattle.pipe_model.specs.declared.sent.Sent.{Sent}
-use Rattle.pipe_model.specs.Snapshot.{shows_gap, tells_same}
-use Rattle.pipe_model.specs.Closing.{cause_of, is_closing, is_group_gone, after_completing, after_finish, after_close}
-use Rattle.pipe_model.specs.Ends.{Half, fresh, settle, is_due, is_over, meets_fate, takes, takes_snapshot, validates, strikes, completes, counts_completed, batch, present, posts_batch, window, unread, to_land, to_complete, lands, comes_up, loses_group}
+use Rattle.pipe_model.specs.Snapshot.{shows_gap}
+use Rattle.pipe_model.specs.Closing.{cause_of, is_closing, after_completing}
+use Rattle.pipe_model.specs.Ends.{Half, settle, is_due, is_over, meets_fate, takes, takes_snapshot, validates, strikes, completes, counts_completed, batch, posts_batch, window, unread, to_land, to_complete, lands}
 use Rattle.pipe_model.specs.Calls.{Call, Writes, Reads, Finishes, Closes, Aborts, Awaits, Moves, calls, is_ended}
-use Rattle.pipe_model.specs.Pipe.{Pipe, Terms, Item, Fate, GroupEnd, Up, Calls, Lands, Completes, half, pipe, apply, step, sent_since, posts_of}
-use Rattle.pipe_model.specs.Parts.{EachOf}
-use Rattle.world_core.specs.Wired.{HasGone, passes_by, IsOpenEnd, IsOpenSent}
-use Rattle.world_core.proofs.OpenEnds.{completes-open-is}
+use Rattle.pipe_model.specs.Pipe.{Pipe, Terms, Item, Fate, GroupEnd, Up, Calls, Lands, Completes, half, apply, step, sent_since}
+use Rattle.world_core.specs.Wired.{HasGone, passes_by}
 
 -- whichever of two
 pub either : (P : Half → Type 0) (h1 h2 : Half) (b : Bool) → P h1 → P h2 → P (if b then h1 else h2)
@@ -101,7 +99,7 @@ kept size A (Completes B) p k = (refl, refl, refl)
 kept size B (Completes A) p k = (refl, refl, refl)
 kept size B (Completes B) p k = absurd (true≢false (sym k))
 
-settled-half : (t : Terms) (x : Side) (item : Item) (p : Pipe) → half x (step t item p) ≡ settle t.depth (half x (apply t.size item p))
+pub settled-half : (t : Terms) (x : Side) (item : Item) (p : Pipe) → half x (step t item p) ≡ settle t.depth (half x (apply t.size item p))
 settled-half t A item p = refl
 settled-half t B item p = refl
 

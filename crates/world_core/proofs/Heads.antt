@@ -1,14 +1,12 @@
 -- What lands next on the link, where it is a CDC message, spells what an end has to land next, and likewise what completes.
-use Rattle.std.proofs.Common.{◌≡◌, ◌∙◌, ◌==◌, ◌⊎◌, inl, inr, ℕ, ◌+◌, ◌-◌, ◌<◌, ◌≤◌, Bool, true, false, if◌then◌else◌, List, [], ◌∷◌, ◌++◌, length, take, drop, map, filter, filter_map, refl, ap, sym, subst, ◌&&◌, true≢false, eqb-true, eq-eqb, arith, nat_lt, lt-ltb, suc, zero}
+use Rattle.std.proofs.Common.{◌≡◌, ◌∙◌, ◌==◌, ◌⊎◌, inl, inr, ℕ, ◌-◌, ◌<◌, Bool, true, false, if◌then◌else◌, List, [], ◌∷◌, take, drop, filter, refl, ap, sym, subst, ◌&&◌, true≢false, eqb-true, eq-eqb, arith, lt-ltb, suc, zero}
 use Rattle.std.specs.Prelude.{Option, Some, None, is_some, cond}
 use Rattle.std.specs.List.{cons_option}
 use Rattle.smc_num.specs.declared.Side.{Side}
-use Rattle.smc_num.specs.declared.Side.TheVariants.{A, B}
 use Rattle.smc_num.specs.declared.LinkId.{LinkId}
 use Rattle.smc_num.specs.Names.{other, same_side, same_link, head}
 use Rattle.cdc_wire.specs.declared.CdcMessage.{CdcMessage}
 use Rattle.pipe_model.specs.declared.setup.Setup.{Setup}
-use Rattle.pipe_model.specs.declared.post.Post.{Post}
 use Rattle.pipe_model.specs.declared.post.Post.TheVariants.{Cdc}
 use Rattle.pipe_model.specs.declared.post.Placed.{Placed}
 use Rattle.pipe_model.specs.declared.entry.Entry.{Entry}
@@ -19,9 +17,8 @@ use Rattle.pipe_model.specs.History.{Offered, offered, next_number, numbered}
 use Rattle.pipe_model.specs.Wires.{is_on, completes_later, unlanded, uncompleted}
 use Rattle.pipe_model.specs.Ends.{Half, to_land, to_complete}
 use Rattle.pipe_model.specs.Parts.{EachOf}
-use Rattle.pipe_model.specs.Pipe.{half, pipe}
-use Rattle.pipe_model.specs.Connections.{group_on, part}
-use Rattle.pipe_model.specs.Lending.{terms_of, pipe_of}
+use Rattle.pipe_model.specs.Pipe.{half}
+use Rattle.pipe_model.specs.Lending.{pipe_of}
 use Rattle.world_core.specs.Played.{IsPlayed}
 use Rattle.world_core.specs.OneLink.{the_link}
 use Rattle.world_core.specs.Wired.{cdc_under, if_meant, cdcs, message, returning, IsCarried, IsOpenSent}
@@ -29,7 +26,7 @@ use Rattle.world_core.specs.WireSteps.{EachPlaced, leaving, landing_now, complet
 use Rattle.world_core.specs.Agreement.{HasOffers, IsShaken, IsElse, Agree, Spelling, next_to_land, next_to_complete}
 use Rattle.world_core.proofs.OpenEnds.{each-head, MaySent}
 use Rattle.world_core.proofs.Places.{placed-append, placed-drop, placed-take, placed-filter}
-use Rattle.world_core.proofs.Carried.{Begins, begins}
+use Rattle.world_core.proofs.Carried.{begins}
 use Rattle.world_core.proofs.Feasible.{has-returning, returning-head}
 use Rattle.world_core.proofs.Own.{grouped}
 use Rattle.world_core.proofs.Agreement.{agrees}
@@ -69,7 +66,7 @@ module _ (link : LinkId) (x : Side) where
       ap (λ post. cdc_under x m.token post) e ∙ ap (λ b. if_meant (b && (m.token == m.token)) m) same ∙ ap (λ b. if_meant b m) (eq-eqb m.token m.token refl)
 
 -- some offer gave a token, or none did
-abbrev Gave : Side → ℕ → List Entry → Type 0
+abbrev pub Gave : Side → ℕ → List Entry → Type 0
 Gave y token past = (s : ℕ) × ((o : Offered) × ((offered y s past ≡ Some o) × (token ≡ o.offer.token)))
 
 gave-by : (y : Side) (token : ℕ) (past : List Entry) (s : ℕ) (q : Option Offered) → offered y s past ≡ q → Gave y token past ⊎ IsElse token q
@@ -96,7 +93,7 @@ search-below y token past (suc n) = by (search-below y token past n) (gave-by y 
             below : (s : ℕ) → s < suc n → ((s ≡ n) → ⊥) → s < n
             below s l d = omega (arith, l, d)
 
-gave : (setup : Setup) (y : Side) (token : ℕ) (past : List Entry) → HasOffers setup past → Gave y token past ⊎ ((s : ℕ) → IsElse token (offered y s past))
+pub gave : (setup : Setup) (y : Side) (token : ℕ) (past : List Entry) → HasOffers setup past → Gave y token past ⊎ ((s : ℕ) → IsElse token (offered y s past))
 gave setup y token past h = by (search-below y token past setup.sockets)
   where
     by : Gave y token past ⊎ ((s : ℕ) → s < setup.sockets → IsElse token (offered y s past)) → Gave y token past ⊎ ((s : ℕ) → IsElse token (offered y s past))

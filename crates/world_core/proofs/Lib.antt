@@ -55,3 +55,14 @@ pub mod Agreed
 pub mod Agreement
 pub mod Pipes
 pub mod Heads
+pub mod Quiet
+pub mod Senders
+pub mod Batches
+pub mod OneSender
+pub mod NewOffers
+pub mod Shaken
+pub mod Tokens
+pub mod Groups
+pub mod Rising
+pub mod Handshaken
+pub mod Batched

@@ -6,18 +6,15 @@ use Rattle.smc_num.specs.declared.Side.TheVariants.{A, B}
 use Rattle.smc_num.specs.declared.LinkId.{LinkId}
 use Rattle.smc_num.specs.declared.LinkPhase.{LinkPhase}
 use Rattle.smc_num.specs.declared.LinkPhase.TheVariants.{Unused, Pending, Live, Dead}
-use Rattle.smc_num.specs.Names.{head, other}
-use Rattle.smc_num.specs.Numbers.{wire_number}
+use Rattle.smc_num.specs.Names.{head}
 use Rattle.pipe_model.specs.declared.snapshot.Snapshot.{Snapshot}
-use Rattle.pipe_model.specs.declared.reply.ResetCause.TheVariants.{PeerAbort, Gap}
-use Rattle.pipe_model.specs.Snapshot.{shows_gap, is_last}
-use Rattle.pipe_model.specs.declared.closing.Phase.{Phase}
-use Rattle.pipe_model.specs.declared.closing.Phase.TheVariants.{Open}
+use Rattle.pipe_model.specs.declared.reply.ResetCause.TheVariants.{PeerAbort}
+use Rattle.pipe_model.specs.Snapshot.{is_last}
 use Rattle.pipe_model.specs.declared.sent.Sent.{Sent}
 use Rattle.pipe_model.specs.Closing.{cause_of, is_closing, after_posting, after_completing}
 use Rattle.pipe_model.specs.Ends.{Half, fresh, settle, is_due, is_over, meets_fate, takes, takes_snapshot, validates, strikes, completes, counts_completed, batch, present, posts_batch, window, unread, to_land, to_complete, lands, comes_up}
 use Rattle.pipe_model.specs.Calls.{Call, Writes, Reads, Finishes, Closes, Aborts, Awaits, Moves, calls, is_ended}
-use Rattle.pipe_model.specs.Pipe.{Pipe, Terms, Item, Fate, GroupEnd, Up, Calls, Lands, Completes, half, pipe, apply, step}
+use Rattle.pipe_model.specs.Pipe.{Pipe, Terms, Item, Fate, GroupEnd, Up, Calls, Lands, Completes, half, pipe, apply}
 use Rattle.pipe_model.specs.Parts.{EachOf}
 use Rattle.world_core.specs.Wired.{IsOpenSnapshot, IsOpenSent, IsOpenEnd, EachShot, EachItem, keeps_open}
 

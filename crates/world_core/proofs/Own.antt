@@ -1,10 +1,10 @@
 -- Which landing or completion is a connection's own: that of a CDC message under the token that its end was offered.
-use Rattle.std.proofs.Common.{◌≡◌, ◌∙◌, ◌==◌, ◌⊎◌, inl, inr, ℕ, ◌+◌, ◌-◌, ◌≤◌, ◌<◌, Bool, true, false, if◌then◌else◌, List, [], ◌∷◌, ◌++◌, length, take, drop, refl, ap, sym, subst, ◌&&◌, true≢false, arith, eqb-true, eq-eqb, length-append}
+use Rattle.std.proofs.Common.{◌≡◌, ◌∙◌, ◌==◌, ℕ, ◌+◌, ◌-◌, ◌≤◌, ◌<◌, Bool, true, false, if◌then◌else◌, List, [], ◌∷◌, ◌++◌, length, take, drop, refl, ap, sym, ◌&&◌, true≢false, arith, eqb-true, eq-eqb, length-append}
 use Rattle.std.specs.Prelude.{Option, Some, None, is_some, unwrap_or, option_map}
 use Rattle.smc_num.specs.declared.Side.{Side}
 use Rattle.smc_num.specs.declared.Side.TheVariants.{A, B}
 use Rattle.smc_num.specs.declared.LinkId.{LinkId}
-use Rattle.smc_num.specs.Names.{other, same_side, head}
+use Rattle.smc_num.specs.Names.{other, same_side}
 use Rattle.cdc_wire.specs.declared.CdcMessage.{CdcMessage}
 use Rattle.pipe_model.specs.declared.setup.Setup.{Setup}
 use Rattle.pipe_model.specs.declared.post.Post.{Post}
@@ -14,17 +14,16 @@ use Rattle.pipe_model.specs.declared.entry.Entry.{Entry}
 use Rattle.pipe_model.specs.declared.sent.Sent.{Sent}
 use Rattle.pipe_model.specs.Words.{passes}
 use Rattle.pipe_model.specs.History.{Offered, offered, post_at, is_cdc}
-use Rattle.pipe_model.specs.Ends.{Half, to_land, to_complete}
-use Rattle.pipe_model.specs.Pipe.{Terms, Pipe, Item, Fate, GroupEnd, Up, Calls, Lands, Completes, half, pipe, step}
+use Rattle.pipe_model.specs.Ends.{Half, to_complete}
+use Rattle.pipe_model.specs.Pipe.{Terms, Item, Lands, Completes, half, pipe, step}
 use Rattle.pipe_model.specs.Parts.{IsMarked}
-use Rattle.pipe_model.specs.Connections.{group_on, is_own, if_own}
-use Rattle.world_core.specs.OneLink.{the_link}
+use Rattle.pipe_model.specs.Connections.{group_on, if_own}
 use Rattle.world_core.specs.Wired.{cdc_under, if_meant, returning, HasGone, EachItem, passes_by}
 use Rattle.world_core.specs.Agreement.{HasOffers, IsElse}
 use Rattle.world_core.proofs.Growth.{gone-on, lands-one, completes-one}
 use Rattle.world_core.proofs.Idle.{all-passed-by}
 use Rattle.world_core.proofs.Carried.{returning-same}
-use Rattle.world_core.proofs.Feasible.{is_no_message, returning-head, has-returning}
+use Rattle.world_core.proofs.Feasible.{returning-head, has-returning}
 use Rattle.world_core.proofs.EntryItems.{is_fate_or_up, fate-or-up-passes, each-more}
 
 -- by the offer

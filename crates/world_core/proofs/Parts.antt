@@ -1,26 +1,21 @@
 -- The part of a connection in a played history: no close is in it, its establishments are on the one link, and an end of its pipe
 -- is established just where that of its socket is.
-use Rattle.std.proofs.Common.{◌≡◌, ◌∙◌, ℕ, ◌+◌, Bool, true, false, if◌then◌else◌, List, [], ◌∷◌, ◌++◌, length, reverse, refl, ap, sym, subst, ◌&&◌, ◌||◌, not, true≢false}
+use Rattle.std.proofs.Common.{◌≡◌, ◌∙◌, ℕ, Bool, true, false, List, [], ◌∷◌, ◌++◌, reverse, refl, ap, sym, ◌||◌, true≢false}
 use Rattle.std.specs.Prelude.{Option, Some, None, is_some, option_map, option_to_list}
 use Rattle.smc_num.specs.declared.Side.{Side}
 use Rattle.smc_num.specs.declared.Side.TheVariants.{A, B}
 use Rattle.smc_num.specs.declared.LinkId.{LinkId}
-use Rattle.smc_num.specs.declared.LinkPhase.{LinkPhase}
-use Rattle.smc_num.specs.declared.LinkPhase.TheVariants.{Unused, Pending, Live, Dead}
 use Rattle.smc_num.specs.Names.{other, same_side, head}
-use Rattle.smc_num.specs.Numbers.{wire_number}
 use Rattle.pipe_model.specs.declared.setup.Setup.{Setup}
 use Rattle.pipe_model.specs.declared.entry.Entry.{Entry}
-use Rattle.pipe_model.specs.declared.sent.Sent.{Sent}
 use Rattle.pipe_model.specs.History.{Offered, offered}
-use Rattle.pipe_model.specs.Ends.{Half, settle, is_due, posts_batch, meets_fate, takes, completes, to_land, to_complete}
-use Rattle.pipe_model.specs.Calls.{Call, calls}
+use Rattle.pipe_model.specs.Ends.{Half, settle, is_due, posts_batch, to_land, to_complete}
 use Rattle.pipe_model.specs.Pipe.{Pipe, Terms, Item, Fate, GroupEnd, Up, Calls, Lands, Completes, half, pipe, apply, step}
 use Rattle.pipe_model.specs.Connections.{comes_up, ups, fates, deeds, is_up, items, part}
 use Rattle.world_core.specs.Played.{IsMade, IsPlayed}
 use Rattle.world_core.specs.OneLink.{the_link}
 use Rattle.world_core.specs.Wired.{EachItem, EachUpOn, keeps_open}
-use Rattle.world_core.specs.Agreement.{GoesOn, IsShaken, HasOffers}
+use Rattle.world_core.specs.Agreement.{GoesOn, IsShaken}
 use Rattle.world_core.proofs.Growth.{either}
 use Rattle.world_core.proofs.Idle.{same-takes, same-completes, same-fate, same-call}
 use Rattle.world_core.proofs.EntryItems.{each-append, on-append, items-are, items-open, items-on, below, below-is, fates-no-up, is_no_up, deeds-no-up}
@@ -43,18 +38,18 @@ module _ (setup : Setup) (payload : List ℕ) where
       on-append the_link (items payload group s e past) (part payload group s past) (items-on setup payload group s e past m.built r.0) (part-on group s past p.0 p.3 r.1)
 
 -- whether an item establishes the end at a side
-abbrev raises : Side → Item → Bool
+abbrev pub raises : Side → Item → Bool
 raises x (Up y link) = same_side x y
 raises x _ = false
 
-abbrev raised : Side → List Item → Bool
+abbrev pub raised : Side → List Item → Bool
 raised x [] = false
 raised x (item ∷ items) = raises x item || raised x items
 
 settle-up : (depth : ℕ) (h : Half) → (settle depth h).up ≡ h.up
 settle-up depth h = either (λ k. k.up ≡ h.up) (posts_batch h) h (is_due depth h) refl refl
 
-apply-up : (size : ℕ) (x : Side) (item : Item) (p : Pipe) → keeps_open item ≡ true → (half x (apply size item p)).up ≡ (raises x item || (half x p).up)
+pub apply-up : (size : ℕ) (x : Side) (item : Item) (p : Pipe) → keeps_open item ≡ true → (half x (apply size item p)).up ≡ (raises x item || (half x p).up)
 apply-up size A (Fate A link phase) p k = let s = same-fate link phase p.a in s.0
 apply-up size A (Fate B link phase) p k = refl
 apply-up size B (Fate A link phase) p k = refl
@@ -77,7 +72,7 @@ apply-up size A (Completes B) p k = refl
 apply-up size B (Completes A) p k = refl
 apply-up size B (Completes B) p k = let s = same-completes (head (to_complete p.b)) p.b in s.0
 
-step-up : (t : Terms) (x : Side) (item : Item) (p : Pipe) → keeps_open item ≡ true → (half x (step t item p)).up ≡ (raises x item || (half x p).up)
+pub step-up : (t : Terms) (x : Side) (item : Item) (p : Pipe) → keeps_open item ≡ true → (half x (step t item p)).up ≡ (raises x item || (half x p).up)
 step-up t A item p k = settle-up t.depth (apply t.size item p).a ∙ apply-up t.size A item p k
 step-up t B item p k = settle-up t.depth (apply t.size item p).b ∙ apply-up t.size B item p k
 
@@ -91,11 +86,11 @@ news-up t x [] items k = refl
 news-up t x (item ∷ news) items k =
     step-up t x item (pipe t (news ++ items)) k.0 ∙ ap (λ b. raises x item || b) (news-up t x news items k.1) ∙ or-shift (raises x item) (raised x news) (half x (pipe t items)).up
 
-raised-append : (x : Side) (is js : List Item) → raised x (is ++ js) ≡ (raised x is || raised x js)
+pub raised-append : (x : Side) (is js : List Item) → raised x (is ++ js) ≡ (raised x is || raised x js)
 raised-append x [] js = refl
 raised-append x (i ∷ is) js = ap (λ b. raises x i || b) (raised-append x is js) ∙ or-shift (raises x i) (raised x is) (raised x js)
 
-raised-none : (x : Side) (is : List Item) → EachItem is_no_up is → raised x is ≡ false
+pub raised-none : (x : Side) (is : List Item) → EachItem is_no_up is → raised x is ≡ false
 raised-none x [] p = refl
 raised-none x (Fate y l phase ∷ is) p = raised-none x is p.1
 raised-none x (GroupEnd y ∷ is) p = raised-none x is p.1
@@ -127,7 +122,7 @@ of-side-is A s e past = refl
 of-side-is B s e past = refl
 
 module _ (setup : Setup) (payload : List ℕ) where
-  raised-items : (x : Side) (group s : ℕ) (e : Entry) (past : List Entry) (before : ℕ) → IsMade setup payload past before e → GoesOn e past → raised x (items payload group s e past) ≡ is_some (comes_up x s e past)
+  pub raised-items : (x : Side) (group s : ℕ) (e : Entry) (past : List Entry) (before : ℕ) → IsMade setup payload past before e → GoesOn e past → raised x (items payload group s e past) ≡ is_some (comes_up x s e past)
   raised-items x group s e past before m g =
       ap (λ is. raised x is) (items-are payload group s e past) ∙ raised-append x (deeds payload s e.event e.reply past) (below group s e past) ∙
       ap (λ b. b || raised x (below group s e past)) (raised-none x (deeds payload s e.event e.reply past) (deeds-no-up setup payload s e.event e.reply past m.built)) ∙

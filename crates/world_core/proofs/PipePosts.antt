@@ -1,24 +1,23 @@
 -- Of what all pipes post with an entry, the CDC messages under one token are those of one end.
-use Rattle.std.proofs.Common.{◌≡◌, ◌∙◌, ◌==◌, ℕ, ◌+◌, ◌-◌, ◌≤◌, ◌<◌, Bool, true, false, if◌then◌else◌, List, [], ◌∷◌, ◌++◌, length, map, filter, filter_map, flat_map, refl, ap, sym, subst, ◌&&◌, not, true≢false, append-nil, arith, suc, zero, eq-eqb, eqb-true, nat_le, ◌%◌}
-use Rattle.std.specs.Prelude.{Option, Some, None, cond, unwrap_or}
+use Rattle.std.proofs.Common.{◌≡◌, ◌∙◌, ◌==◌, ℕ, ◌+◌, ◌-◌, ◌≤◌, ◌<◌, Bool, true, false, if◌then◌else◌, List, [], ◌∷◌, ◌++◌, map, filter, filter_map, flat_map, refl, ap, sym, ◌&&◌, true≢false, append-nil, arith, suc, zero, eq-eqb, eqb-true, nat_le, ◌%◌}
+use Rattle.std.specs.Prelude.{Option, Some, None, cond}
 use Rattle.std.specs.List.{cons_option, range_with_len}
 use Rattle.std.proofs.lemmas.List.Elements.{filter_map-append}
 use Rattle.smc_num.specs.declared.Side.{Side}
 use Rattle.smc_num.specs.declared.Side.TheVariants.{A, B}
 use Rattle.smc_num.specs.declared.LinkId.{LinkId}
-use Rattle.smc_num.specs.Names.{other, same_side, up_to}
-use Rattle.smc_num.specs.Places.{Place, rmb_at}
+use Rattle.smc_num.specs.Names.{other, same_side}
+use Rattle.smc_num.specs.Places.{Place}
 use Rattle.clc_wire.specs.declared.offer.Offer.{Offer}
 use Rattle.cdc_wire.specs.declared.CdcMessage.{CdcMessage}
 use Rattle.pipe_model.specs.declared.setup.Setup.{Setup}
 use Rattle.pipe_model.specs.declared.post.Post.{Post}
-use Rattle.pipe_model.specs.declared.post.Post.TheVariants.{Write, Cdc, Llc, Clc}
+use Rattle.pipe_model.specs.declared.post.Post.TheVariants.{Cdc}
 use Rattle.pipe_model.specs.declared.entry.Entry.{Entry}
 use Rattle.pipe_model.specs.declared.sent.Sent.{Sent}
 use Rattle.pipe_model.specs.Words.{element_size}
 use Rattle.pipe_model.specs.Snapshot.{spelled, validation}
 use Rattle.pipe_model.specs.History.{Offered, offered}
-use Rattle.pipe_model.specs.Keys.{last_bound}
 use Rattle.pipe_model.specs.Pipe.{posts_of}
 use Rattle.pipe_model.specs.Parts.{EachOf}
 use Rattle.pipe_model.specs.Connections.{group_on, items, part}

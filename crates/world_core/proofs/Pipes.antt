@@ -1,24 +1,24 @@
 -- The pipe of each connection in a played history: its part can be, is near, and neither of its ends closes.
-use Rattle.std.proofs.Common.{◌≡◌, ◌∙◌, ◌==◌, ◌⊎◌, inl, inr, ℕ, ◌+◌, Bool, true, false, if◌then◌else◌, List, [], ◌∷◌, ◌++◌, length, take, drop, refl, ap, sym, subst, ◌&&◌, true≢false, eqb-true}
-use Rattle.std.specs.Prelude.{Option, Some, None, is_some}
+use Rattle.std.proofs.Common.{◌≡◌, ◌∙◌, ◌==◌, ℕ, Bool, true, false, if◌then◌else◌, List, [], ◌∷◌, ◌++◌, length, take, drop, refl, ap, sym, subst, ◌&&◌}
+use Rattle.std.specs.Prelude.{Option, Some, None}
 use Rattle.smc_num.specs.declared.Side.{Side}
 use Rattle.smc_num.specs.declared.Side.TheVariants.{A, B}
 use Rattle.smc_num.specs.Names.{other}
 use Rattle.pipe_model.specs.declared.setup.Setup.{Setup}
 use Rattle.pipe_model.specs.declared.event.Event.{Event}
 use Rattle.pipe_model.specs.declared.event.End.{End}
-use Rattle.pipe_model.specs.declared.event.Event.TheVariants.{Open, Raw, Write, Read, Finish, Close, Abort, Await, Clc, Deliver, Complete, Swallow, Cut, Heal, Report, Move, Grow, Test, Trim}
+use Rattle.pipe_model.specs.declared.event.Event.TheVariants.{Open, Write, Read, Clc, Deliver, Complete}
 use Rattle.pipe_model.specs.declared.reply.Reply.{Reply}
 use Rattle.pipe_model.specs.declared.entry.Entry.{Entry}
 use Rattle.pipe_model.specs.History.{Offered, offered}
 use Rattle.pipe_model.specs.Calls.{Call, Writes, Reads}
-use Rattle.pipe_model.specs.Pipe.{Terms, Item, Calls, Lands, Completes, half, pipe, is_near_part}
-use Rattle.pipe_model.specs.Connections.{is_up, call_on, deeds, items, part, group_on, landed_at, completed_at}
+use Rattle.pipe_model.specs.Pipe.{Calls, Lands, Completes, half}
+use Rattle.pipe_model.specs.Connections.{is_up, call_on, deeds, part, group_on, landed_at, completed_at}
 use Rattle.pipe_model.specs.Lending.{terms_of, pipe_of}
 use Rattle.pipe_model.proofs.Unswallowed.{unswallowed-near}
-use Rattle.world_core.specs.Played.{IsBuilt, IsMade, IsPlayed}
+use Rattle.world_core.specs.Played.{IsBuilt, IsPlayed}
 use Rattle.world_core.specs.OneLink.{the_link}
-use Rattle.world_core.specs.Agreement.{HasOffers, GoesOn, IsShaken, CanBe, Agree, HasPipe}
+use Rattle.world_core.specs.Agreement.{HasOffers, IsShaken, CanBe, HasPipe}
 use Rattle.world_core.proofs.OpenEnds.{half-open, never-over}
 use Rattle.world_core.proofs.Idle.{idle, on-link}
 use Rattle.world_core.proofs.EntryItems.{each-more, items-are, below, below-calm, is_fate_or_up}

@@ -1,13 +1,12 @@
 -- Each post on a wire stands in the history at its place.
-use Rattle.std.proofs.Common.{◌≡◌, ◌∙◌, ◌==◌, ℕ, ◌+◌, ◌-◌, ◌≤◌, ◌<◌, Bool, true, false, List, [], ◌∷◌, ◌++◌, length, take, drop, filter, refl, ap, sym, subst, arith, suc, zero, append_assoc, slice_get, length-append}
-use Rattle.std.specs.Prelude.{Option, Some, None, cond, option_and_then}
+use Rattle.std.proofs.Common.{◌≡◌, ◌∙◌, ℕ, ◌+◌, ◌-◌, Bool, true, false, List, [], ◌∷◌, ◌++◌, length, take, drop, filter, refl, ap, sym, subst, arith, suc, zero, append_assoc, slice_get, length-append}
+use Rattle.std.specs.Prelude.{Some, cond, option_and_then}
 use Rattle.smc_num.specs.declared.Side.{Side}
 use Rattle.smc_num.specs.declared.LinkId.{LinkId}
 use Rattle.pipe_model.specs.declared.post.Post.{Post}
-use Rattle.pipe_model.specs.declared.post.PostRef.{PostRef}
 use Rattle.pipe_model.specs.declared.post.Placed.{Placed}
 use Rattle.pipe_model.specs.declared.entry.Entry.{Entry}
-use Rattle.pipe_model.specs.History.{next_number, entry_at, post_at, numbered}
+use Rattle.pipe_model.specs.History.{next_number, post_at, numbered}
 use Rattle.pipe_model.specs.Wires.{is_on, completes_later, unlanded, uncompleted}
 use Rattle.world_core.specs.WireSteps.{IsPlaced, EachPlaced, leaving, landing_now, completing_now}
 

@@ -1,14 +1,14 @@
 -- Which of the three ways an entry goes: calls and CLC messages leave the wires alone, a delivery and a completion move one post.
-use Rattle.std.proofs.Common.{◌≡◌, ◌∙◌, ◌==◌, ◌⊎◌, inl, inr, ℕ, ◌+◌, ◌-◌, ◌≤◌, ◌<◌, Bool, true, false, if◌then◌else◌, List, [], ◌∷◌, ◌++◌, length, take, drop, refl, ap, sym, subst, ◌&&◌, ◌||◌, not, true≢false}
-use Rattle.std.specs.Prelude.{Option, Some, None, is_some, option_and_then, option_map, unwrap_or}
+use Rattle.std.proofs.Common.{◌≡◌, ◌∙◌, ◌==◌, ◌⊎◌, inl, inr, ℕ, Bool, true, false, if◌then◌else◌, List, [], ◌∷◌, length, take, drop, refl, ap, sym, subst, ◌&&◌, ◌||◌, true≢false}
+use Rattle.std.specs.Prelude.{Option, Some, None, is_some, option_and_then, option_map}
 use Rattle.smc_num.specs.declared.Side.{Side}
 use Rattle.smc_num.specs.declared.Side.TheVariants.{A, B}
 use Rattle.smc_num.specs.declared.LinkId.{LinkId}
-use Rattle.smc_num.specs.Names.{other, same_side, same_link, head}
+use Rattle.smc_num.specs.Names.{other, same_link, head}
 use Rattle.pipe_model.specs.declared.setup.Setup.{Setup}
 use Rattle.pipe_model.specs.declared.event.Event.{Event}
 use Rattle.pipe_model.specs.declared.event.End.{End}
-use Rattle.pipe_model.specs.declared.event.Event.TheVariants.{Open, Raw, Write, Read, Finish, Close, Abort, Await, Clc, Deliver, Complete, Swallow, Cut, Heal, Report, Move, Grow, Test, Trim}
+use Rattle.pipe_model.specs.declared.event.Event.TheVariants.{Open, Write, Read, Clc, Deliver, Complete}
 use Rattle.pipe_model.specs.declared.reply.Reply.{Reply}
 use Rattle.pipe_model.specs.declared.reply.Reply.TheVariants.{Idle, Landed, Dropped, Completed}
 use Rattle.pipe_model.specs.declared.post.Post.{Post}
@@ -19,16 +19,16 @@ use Rattle.pipe_model.specs.declared.entry.Entry.{Entry}
 use Rattle.pipe_model.specs.Words.{passes}
 use Rattle.pipe_model.specs.Calls.{Call, Writes, Reads}
 use Rattle.pipe_model.specs.Fabric.{latest, is_latest}
-use Rattle.pipe_model.specs.Wires.{is_dead, is_cut, some_reported, unlanded, uncompleted, landing, landing_on, completing, completing_on, completed_told, if_latest}
+use Rattle.pipe_model.specs.Wires.{is_cut, some_reported, unlanded, uncompleted, landing, landing_on, completing, completing_on, completed_told, if_latest}
 use Rattle.pipe_model.specs.Lending.{record_of}
 use Rattle.pipe_model.specs.Pipe.{Item, Calls, Lands, Completes}
-use Rattle.pipe_model.specs.Connections.{is_up, call_on, is_own, if_own, landed_at, deeds}
+use Rattle.pipe_model.specs.Connections.{is_up, call_on, is_own, if_own}
 use Rattle.pipe_model.specs.Replies.{told, lands_told, deliver_told}
 use Rattle.pipe_model.specs.Lawful.{reply_of}
 use Rattle.world_core.specs.Played.{IsBuilt, IsMade}
 use Rattle.world_core.specs.OneLink.{the_link}
 use Rattle.world_core.specs.Wired.{EachItem, passes_by}
-use Rattle.world_core.specs.WireSteps.{Stays, LandsNow, CompletesNow, Way}
+use Rattle.world_core.specs.WireSteps.{Way}
 use Rattle.world_core.specs.Agreement.{IsOnlyLink}
 
 abbrev Chosen : Bool → ℕ → ℕ

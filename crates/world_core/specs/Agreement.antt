@@ -1,6 +1,6 @@
 -- What the pipes take from the handshake: the one link, the offers and the ends that come up.
 -- A reader learns here which facts of links and sockets the agreement of wires and pipes rests on, and what it says.
-use Rattle.std.specs.Prelude.{◌≡◌, ◌⊎◌, ◌<◌, ◌==◌, ℕ, Bool, true, false, if◌then◌else◌, nat_lt, List, [], ◌∷◌, Option, Some, None}
+use Rattle.std.specs.Prelude.{◌≡◌, ◌⊎◌, ◌<◌, ◌≤◌, ◌==◌, length, ℕ, true, false, if◌then◌else◌, nat_lt, List, [], ◌∷◌, Option, Some, None}
 use Rattle.smc_num.specs.declared.Side.{Side}
 use Rattle.smc_num.specs.declared.Side.TheVariants.{A, B}
 use Rattle.smc_num.specs.declared.LinkId.{LinkId}
@@ -15,12 +15,12 @@ use Rattle.pipe_model.specs.Words.{element_size}
 use Rattle.pipe_model.specs.History.{Offered, offered}
 use Rattle.pipe_model.specs.Fabric.{latest, loses_group_with}
 use Rattle.pipe_model.specs.Wires.{is_dead, unlanded, uncompleted}
-use Rattle.pipe_model.specs.Pipe.{Terms, Item, Fate, half, is_near_part}
+use Rattle.pipe_model.specs.Pipe.{Terms, Item, Fate, half, is_near_part, posts_of}
 use Rattle.pipe_model.specs.Ends.{Half, is_over, to_land, to_complete}
 use Rattle.pipe_model.specs.Parts.{IsFeasible, has_swallow}
 use Rattle.pipe_model.specs.Connections.{comes_up, is_up, fates, items, part, group_on}
 use Rattle.pipe_model.specs.Lending.{terms_of, pipe_of}
-use Rattle.pipe_model.specs.Lawful.{draft}
+use Rattle.pipe_model.specs.Posts.{sent_posts, connection_posts}
 use Rattle.world_core.specs.OneLink.{the_link}
 use Rattle.world_core.specs.Wired.{cdcs, IsCarried, IsOpenEnd, IsOpenSent, IsOnLink}
 
@@ -100,3 +100,18 @@ next_to_land h = head (to_land h)
 
 abbrev pub next_to_complete : Half → Option Sent
 next_to_complete h = if nat_lt h.completed h.landed then head (to_complete h) else None
+
+-- that all pipes together post with an entry the writes and the CDC message of one message of one end
+pub record PostsOne (setup : Setup) (payload : List ℕ) (e : Entry) (past : List Entry) : Type 0 where
+  pub x : Side
+  pub s : ℕ
+  pub offer : Offered
+  pub offered_is : offered (other x) s past ≡ Some offer
+  pub sent : Sent
+  pub sent_is : posts_of (terms_of setup) x (items payload 1 s e past) (part payload 1 s past) ≡ sent ∷ []
+  pub posts_are : connection_posts setup payload e past ≡ sent_posts (element_size setup) x (Some offer) (e ∷ past) sent
+  pub few : length (connection_posts setup payload e past) ≤ 3
+
+-- what all pipes post with an entry: nothing, or that
+abbrev pub PostsFew : Setup → List ℕ → Entry → List Entry → Type 0
+PostsFew setup payload e past = (connection_posts setup payload e past ≡ []) ⊎ PostsOne setup payload e past

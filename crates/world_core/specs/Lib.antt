@@ -4,6 +4,7 @@ pub mod Managers
 pub mod Lent
 pub mod OneLink
 pub mod Played
+pub mod Room
 pub mod Sockets
 pub mod Steps
 pub mod Views

@@ -1,6 +1,6 @@
 -- What an entry does to one wire: nothing leaves it, its next post lands, or its oldest landed post completes.
 -- A reader learns here the three ways in which a wire goes on, and which posts with CDC messages stand on which link.
-use Rattle.std.specs.Prelude.{◌≡◌, ◌⊎◌, ◌≤◌, ℕ, Bool, true, false, List, [], ◌∷◌, length, Some}
+use Rattle.std.specs.Prelude.{◌≡◌, ◌⊎◌, ◌≤◌, ℕ, List, [], ◌∷◌, length, Some}
 use Rattle.smc_num.specs.declared.Side.{Side}
 use Rattle.smc_num.specs.declared.LinkId.{LinkId}
 use Rattle.pipe_model.specs.declared.post.Post.{Post}

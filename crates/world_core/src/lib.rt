@@ -25,7 +25,8 @@ pub use laws::{
 };
 pub use pipe_model::StepFault;
 pub use wire_laws::{
-    no_end_closes, posts_on_a_wire_stand_in_the_history, what_completes_is_next_to_complete,
+    no_end_closes, offers_differ_in_their_tokens, posts_on_a_wire_stand_in_the_history,
+    the_pipes_post_one_batch_at_most, what_completes_is_next_to_complete,
     what_lands_is_next_to_land, wires_and_pipes_agree,
 };
 pub use world::{NewFault, World};

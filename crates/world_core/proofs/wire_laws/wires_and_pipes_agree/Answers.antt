@@ -1,5 +1,6 @@
 use Rattle.world_core.proofs.Agreement.{agrees}
+use Rattle.world_core.proofs.Handshaken.{shaken}
 use Rattle.world_core.proofs.wire_laws.wires_and_pipes_agree.Goals as goal
 
 pub returns : goal.returns
-returns c = agrees
+returns c = λ setup one payload past n p. agrees setup payload past n p (shaken setup one payload past n p)

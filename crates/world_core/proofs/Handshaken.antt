@@ -1,0 +1,70 @@
+-- In every played history the handshake gives what the pipes need of it.
+use Rattle.std.proofs.Common.{◌∙◌, ℕ, List, [], ◌∷◌, sym}
+use Rattle.smc_num.specs.declared.Side.TheVariants.{A, B}
+use Rattle.pipe_model.specs.declared.setup.Setup.{Setup}
+use Rattle.pipe_model.specs.declared.entry.Entry.{Entry}
+use Rattle.pipe_model.specs.Lawful.{draft}
+use Rattle.world_core.specs.Played.{IsOneLink, IsMade, IsPlayed}
+use Rattle.world_core.specs.OneLink.{Stage}
+use Rattle.world_core.specs.Sockets.{IsWorld}
+use Rattle.world_core.specs.Agreement.{HasOffers, GoesOn, IsShaken, PostsFew}
+use Rattle.world_core.proofs.PlayedWorlds.{goes, played}
+use Rattle.world_core.proofs.NewOffers.{HasSocketAt, asked-offers}
+use Rattle.world_core.proofs.Shaken.{Choice, only-link, offer-link, offer-answer, kept-by}
+use Rattle.world_core.proofs.Tokens.{AreCounted, none-counted, counted-step}
+use Rattle.world_core.proofs.Groups.{no-group-ends}
+use Rattle.world_core.proofs.Rising.{comes-named, comes-offered, is-calm}
+use Rattle.world_core.proofs.OneSender.{posts-few}
+
+-- where a socket stands in a world
+at-socket : (setup : Setup) (stage : Stage) (past : List Entry) → IsWorld setup stage past → (s : ℕ) → HasSocketAt setup s past
+at-socket setup stage past w s = let h = w.sockets s in record { at = h.at; stands = h.stands }
+
+offers-by : (setup : Setup) (stage : Stage) (past : List Entry) → IsWorld setup stage past → AreCounted setup past → HasOffers setup past
+offers-by setup stage past w c = record {
+  link = λ x s o f. let h = w.sockets s in let at = h.stands in offer-link h.at x o (sym (at.offer x) ∙ f);
+  known = c.known;
+  tokens = c.tokens;
+  answer = λ s f. let h = w.sockets s in let at = h.stands in at.offer A ∙ offer-answer h.at (sym (at.offer B) ∙ f);
+}
+
+module _ (setup : Setup) (one : IsOneLink setup) (payload : List ℕ) where
+  choice-of : (e : Entry) (past : List Entry) (before : ℕ) (made : IsMade setup payload past before e) (stage : Stage) → IsWorld setup stage past → Choice setup payload e past before made
+  choice-of e past before made stage w = asked-offers setup payload past (at-socket setup stage past w) e.event (draft setup payload past before e.event).reply made.built
+
+  goes-on : (e : Entry) (past : List Entry) (before : ℕ) (made : IsMade setup payload past before e) (from to : Stage) → IsWorld setup from past → IsWorld setup to (e ∷ past) → HasOffers setup past → GoesOn e past
+  goes-on e past before made from to was now offers =
+      let c = choice-of e past before made from was in
+      let k = kept-by setup payload e past before made c in
+      record {
+        kept = k;
+        ups = λ x s l f. (let n = comes-named x s e past l f in let m = n.1 in sym m.1 ∙ offers.link B s n.0 m.0, comes-offered setup payload e past before made c to now x s l f);
+        stands = λ x g. no-group-ends setup from to e past was now k x g;
+      }
+
+  counted : (past : List Entry) (n : ℕ) → IsPlayed setup payload past n → AreCounted setup past
+  counted [] n p = none-counted setup
+  counted (e ∷ past) n p = let w = played setup one payload past p.0 p.3 in counted-step setup payload e past p.0 p.1 (counted past p.0 p.3) (choice-of e past p.0 p.1 w.stage w.world)
+
+  pub has-offers : (past : List Entry) (n : ℕ) → IsPlayed setup payload past n → HasOffers setup past
+  has-offers past n p = let w = played setup one payload past n p in offers-by setup w.stage past w.world (counted past n p)
+
+  -- the handshake gives it
+  pub shaken : (past : List Entry) (n : ℕ) → IsPlayed setup payload past n → IsShaken setup past
+  shaken [] n p = has-offers [] n p
+  shaken (e ∷ past) n p =
+      let w = played setup one payload past p.0 p.3 in
+      let world = w.world in
+      let v = goes setup one payload w.stage p.0 e past p.1 world in (
+        has-offers (e ∷ past) n p,
+        (only-link setup w.stage past world.link, (goes-on e past p.0 p.1 w.stage v.stage world v.world (has-offers past p.0 p.3), shaken past p.0 p.3)),
+      )
+
+  -- one batch at most with an entry
+  pub one-batch : (e : Entry) (past : List Entry) (n : ℕ) (p : IsPlayed setup payload (e ∷ past) n) → PostsFew setup payload (draft setup payload past p.0 e.event) past
+  one-batch e past n p =
+      let w = played setup one payload past p.0 p.3 in
+      let world = w.world in
+      let v = goes setup one payload w.stage p.0 e past p.1 world in
+      let offers = has-offers past p.0 p.3 in
+      posts-few setup payload e past p.0 p.0 p.1 p.3 offers (only-link setup w.stage past world.link) (goes-on e past p.0 p.1 w.stage v.stage world v.world offers) (shaken past p.0 p.3) (is-calm setup w.stage v.stage e past world v.world)
