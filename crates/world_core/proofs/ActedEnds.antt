@@ -28,7 +28,7 @@ use Rattle.world_core.proofs.PipePosts.{met}
 use Rattle.world_core.proofs.PipeSteps.{sent-by, rests}
 use Rattle.world_core.proofs.KeptManagers.{conn-at, manager-kept, end-changed, end-acted}
 use Rattle.world_core.proofs.QuietEntries.{IsCalm, bare, shows-now, shows-bare, desk-stays, socket-stays, end-now, bare-items}
-use Rattle.world_core.proofs.UpEnds.{KnowsEnds, UpFacts, up-facts}
+use Rattle.world_core.proofs.KeyedEnds.{KnowsEnds, UpFacts, up-facts}
 use Rattle.world_core.proofs.DuePosts.{only-pipes, end-due}
 
 -- the entry as the pipes see it

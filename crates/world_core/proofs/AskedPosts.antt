@@ -105,19 +105,11 @@ of-add x p ks qp (LinkSent k) = tt
 of-add x p ks qp (Abandoned on) = tt
 of-add x p ks qp (AddSeen k) = tt
 
-<<<<<<< HEAD
-of-loss : (x : Side) (k : ℕ) (own : Bool) (p : Peer) (before : Flow) (past : List Entry) → EachPost IsNoCdc (loss_posts x k own p before past)
-of-loss x k own p before past = either (p.group == 0) _ _ tt
-    (append (drop_posts x k own p ++ (if resends_key k before then key_again x p (keys_of x past).keys (deleting_rmbs x past) before.key ∷ [] else [])) _
-    (append (drop_posts x k own p) _ (either (own && not (is_dropping k p.flow)) _ _ (tt, tt) tt) (either (resends_key k before) _ _ (of-key x p (keys_of x past).keys (deleting_rmbs x past) before.key, tt) tt))
-    (either (resends_add k before.link) _ _ (of-add x p (keys_of x past) _ before.link) tt))
-=======
 of-loss : (x : Side) (k : ℕ) (own : Bool) (p : Peer) (before : Flow) (past : List Entry) → EachPost IsLlc (loss_posts x k own p before past)
 of-loss x k own p before past = either-llc (p.group == 0) _ _ tt
     (append-llc (drop_posts x k own p ++ (if resends_key k before then key_again x p (keys_of x past).keys (deleting_rmbs x past) before.key ∷ [] else [])) _
     (append-llc (drop_posts x k own p) _ (either-llc (own && not (is_dropping k p.flow)) _ _ (tt, tt) tt) (either-llc (resends_key k before) _ _ (of-key x p (keys_of x past).keys (deleting_rmbs x past) before.key, tt) tt))
     (either-llc (resends_add k before.link) _ _ (of-add x p (keys_of x past) _ before.link) tt))
->>>>>>> 2056b2e94817a19fd211fb5864c182f776627efb
 
 of-step : (setup : Setup) (x : Side) (on : LinkId) (m : LlcMessage) (past : List Entry) (step : FlowStep) → EachPost IsLlc (step_posts setup x on m past step)
 of-step setup x on m past Skip = tt

@@ -28,7 +28,7 @@ use Rattle.world_core.specs.Wired.{is_transfer}
 use Rattle.world_core.specs.Managers.{manager_of, end_of}
 use Rattle.world_core.proofs.PipeSteps.{called, called-other}
 use Rattle.world_core.proofs.QuietEntries.{IsCalm}
-use Rattle.world_core.proofs.UpEnds.{KnowsEnds, up-facts}
+use Rattle.world_core.proofs.KeyedEnds.{KnowsEnds, up-facts}
 use Rattle.world_core.proofs.ActedEnds.{one-acted, one-kept, one-posts, all-kept, nothing-posted, after_at}
 
 -- two ends of which the one is established and on its link as the other, and has sent the same

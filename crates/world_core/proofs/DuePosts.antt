@@ -36,7 +36,7 @@ use Rattle.world_core.specs.Managers.{manager_of, desk_of, conn_of, end_of, lend
 use Rattle.world_core.proofs.PipePosts.{met, flat-none}
 use Rattle.world_core.proofs.Idle.{is-up-where-due}
 use Rattle.world_core.proofs.KeptManagers.{conn-at}
-use Rattle.world_core.proofs.UpEnds.{KnowsEnds, UpFacts}
+use Rattle.world_core.proofs.KeyedEnds.{KnowsEnds, UpFacts}
 
 -- an entry that asks for nothing posts what the pipes post
 pub only-pipes : (setup : Setup) (payload : List ℕ) (past : List Entry) (before : ℕ) (event : Event) (reply : Reply) → reply ≡ reply_of before (told setup payload past event) → asked setup payload past event reply ≡ []

@@ -22,7 +22,7 @@ use Rattle.world_core.proofs.Moves.{IsQuiet}
 use Rattle.world_core.proofs.Parts.{part-open, part-on, up-is}
 use Rattle.world_core.proofs.DuePosts.{only-pipes}
 use Rattle.world_core.proofs.QuietEntries.{IsCalm, bare}
-use Rattle.world_core.proofs.UpEnds.{KnowsEnds}
+use Rattle.world_core.proofs.KeyedEnds.{KnowsEnds}
 
 -- that an element is lent to each end that is up
 abbrev pub LentToUp : Setup → List ℕ → List Entry → Type 0

@@ -10,7 +10,7 @@ use Rattle.pipe_model.specs.Lending.{Lending, lends_by, lent}
 use Rattle.world_core.specs.OneLink.{Stage, the_link}
 use Rattle.world_core.specs.Sockets.{IsWorld, on_link}
 use Rattle.world_core.specs.Managers.{HasLendings, keeps_element, lending_due, lending_on}
-use Rattle.world_core.proofs.UpEnds.{behind}
+use Rattle.world_core.proofs.KeyedEnds.{behind}
 use Rattle.world_core.proofs.KnownEntries.{LentToUp}
 
 -- before any entry

@@ -34,6 +34,7 @@ pub mod OpenManagers
 pub mod StillEntries
 pub mod PlainPosts
 pub mod KnownEntries
+pub mod KeyedEnds
 pub mod QuietManagers
 pub mod WireEntries
 pub mod CallEntries

@@ -47,7 +47,7 @@ use Rattle.world_core.specs.Managers.{end_of}
 use Rattle.world_core.proofs.Moves.{IsQuiet}
 use Rattle.world_core.proofs.QuietEvents.{by-side, entry-of, quiet-write, quiet-read, quiet-complete, quiet-name, quiet-idle-clc, quiet-held-clc, quiet-idle-landing}
 use Rattle.world_core.proofs.QuietEntries.{IsCalm, bare}
-use Rattle.world_core.proofs.UpEnds.{KnowsEnds, up-facts}
+use Rattle.world_core.proofs.KeyedEnds.{KnowsEnds, up-facts}
 use Rattle.world_core.proofs.CallEntries.{IsCalled, IsNothing, nothing-done, is-called, not-called}
 use Rattle.world_core.proofs.WireEntries.{IsMessage, IsTaken, IsDone, message-lands, message-completes, not-message}
 use Rattle.world_core.proofs.KnownEntries.{LentToUp, knows-ends, offers-of, calm-of}

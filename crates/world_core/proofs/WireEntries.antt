@@ -37,7 +37,7 @@ use Rattle.world_core.specs.Agreement.{HasOffers}
 use Rattle.world_core.specs.Managers.{manager_of, end_of, changes_end}
 use Rattle.world_core.proofs.PipeSteps.{landed, taken, completed, completed-other}
 use Rattle.world_core.proofs.QuietEntries.{IsCalm}
-use Rattle.world_core.proofs.UpEnds.{KnowsEnds}
+use Rattle.world_core.proofs.KeyedEnds.{KnowsEnds}
 use Rattle.world_core.proofs.CallEntries.{IsSent, IsNothing, sent-either, sent-self, nothing-done}
 use Rattle.world_core.proofs.ActedEnds.{one-acted, one-changed, one-kept, one-posts, after_at}
 

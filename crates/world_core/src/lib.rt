@@ -10,11 +10,8 @@
 #![tactic(auto)]
 
 mod connection;
-<<<<<<< HEAD
 mod wire_laws;
-=======
 mod laws;
->>>>>>> 453b12f7c469945b27ffb7d06cee60c51b296d64
 mod world;
 
 pub use laws::{
