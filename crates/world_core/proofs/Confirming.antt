@@ -131,6 +131,12 @@ pub keys-known : {x : Side} {t : ℕ} {from to : Stage} {reply : Bool} → Confi
 keys-known (at_a t qp rq) = (refl, (refl, refl))
 keys-known (at_b t qp) = (refl, (refl, refl))
 
+pub keys-same : {x : Side} {t : ℕ} {from to : Stage} {reply : Bool} → Confirming x t from to reply → (y : Side) → keys_at y to ≡ keys_at y from
+keys-same (at_a t qp rq) A = refl
+keys-same (at_a t qp rq) B = refl
+keys-same (at_b t qp) A = refl
+keys-same (at_b t qp) B = refl
+
 -- the fates: the link is live at the taker's side now
 fate-own : {x : Side} {t : ℕ} {from to : Stage} {reply : Bool} → Confirming x t from to reply → filter_map (fate_of x 1 (peer x (fabric_at from)).table) (peer x (fabric_at to)).table ≡ Fate x the_link LiveLink ∷ []
 fate-own (at_a t qp rq) = refl

@@ -78,7 +78,7 @@ module _ (setup : Setup) (payload : List ℕ) (regions : List Buffer) (q : Entry
       ∙ ap (λ o. key_to (desk_of setup payload x past) (unwrap_or (named_link s past) no_link) o) (sym f.heard))))
 
   -- the end is up: what it posts is what is due
-  up-posts : (x : Side) (s : ℕ) (act : Half → Half) (f : UpFacts setup payload x s past) → (act (end_of setup payload x s past)).link ≡ the_link
+  pub up-posts : (x : Side) (s : ℕ) (act : Half → Half) (f : UpFacts setup payload x s past) → (act (end_of setup payload x s past)).link ≡ the_link
       → flat_map (sent_posts (element_size setup) x (offered (other x) s past) (q ∷ past)) (batch (act (end_of setup payload x s past)) ∷ [])
       ≡ batch_posts (element_size setup) x (key_to (desk_of setup payload x past) (route_of x s past f.lending).link (route_of x s past f.lending).peer) (route_of x s past f.lending).peer (act (end_of setup payload x s past))
   up-posts x s act f on =
