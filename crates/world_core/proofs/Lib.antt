@@ -26,6 +26,7 @@ pub mod SameManagers
 pub mod KeptManagers
 pub mod PipeSteps
 pub mod QuietEntries
+pub mod LentRows
 pub mod FallenManagers
 pub mod LinkEntries
 pub mod RisenPosts
