@@ -17,7 +17,7 @@ use Rattle.world_core.specs.Managers.{desk_of, row_of, rows_of, lent_to, lending
 use Rattle.world_core.proofs.Tables.{map-alike}
 use Rattle.world_core.proofs.LentRows.{free-is}
 
-eqb-sym : (a b : ℕ) → (a == b) ≡ (b == a)
+pub eqb-sym : (a b : ℕ) → (a == b) ≡ (b == a)
 eqb-sym a b = by (a == b) refl
   where
     by : (c : Bool) → (a == b) ≡ c → c ≡ (b == a)
@@ -74,6 +74,10 @@ module _ (l : Lending) (all ls : List Lending) where
   pub rows-change : (ps : List Place) → map (row_of (l ∷ all) (l ∷ ls)) ps ≡ map (changes_at l.place (lends l.s)) (map (row_of all ls) ps)
   rows-change [] = refl
   rows-change (p ∷ ps) = ap (λ r. r ∷ map (row_of (l ∷ all) (l ∷ ls)) ps) (row-changes p) ∙ ap (λ (rs : List Row). changes_at l.place (lends l.s) (row_of all ls p) ∷ rs) (rows-change ps)
+
+  -- that of the lending itself is one more
+  pub epoch-here : epoch_in l.place (l ∷ all) ≡ epoch_in l.place all + 1
+  epoch-here = epoch-more l.place true (same-place-self l.place)
 
   -- another lending keeps its epoch
   pub epoch-stays : (m : Lending) → same_place m.place l.place ≡ false → epoch_in m.place (l ∷ all) ≡ epoch_in m.place all
@@ -152,6 +156,22 @@ module _ (setup : Setup) (payload : List ℕ) (x : Side) (past : List Entry) (on
       let a = ap (λ (ps : List Place). length ps) (all-are (p ∷ lent_places (lent setup payload x past))) in
       let b = ap (λ (ps : List Place). length ps) (all-are (lent_places (lent setup payload x past))) in
       omega (arith, r, a, b)
+
+  -- that place is free
+  pub free-of : is_free (lent_places (lent setup payload x past)) p ≡ true
+  free-of = by (all_places (rmbs_of setup x) (elements_of setup x)) free
+    where
+      some-is : (a b : Place) → Some a ≡ Some b → a ≡ b
+      some-is a b e = cc
+
+      one-free : (qs : List Place) (q : Place) (b : Bool) → is_free (lent_places (lent setup payload x past)) q ≡ b → head (cond b (q ∷ filter (is_free (lent_places (lent setup payload x past))) qs) (filter (is_free (lent_places (lent setup payload x past))) qs)) ≡ Some p
+          → (head (filter (is_free (lent_places (lent setup payload x past))) qs) ≡ Some p → is_free (lent_places (lent setup payload x past)) p ≡ true) → is_free (lent_places (lent setup payload x past)) p ≡ true
+      one-free qs q true f e rest = ap (λ r. is_free (lent_places (lent setup payload x past)) r) (sym (some-is q p e)) ∙ f
+      one-free qs q false f e rest = rest e
+
+      by : (qs : List Place) → head (filter (is_free (lent_places (lent setup payload x past))) qs) ≡ Some p → is_free (lent_places (lent setup payload x past)) p ≡ true
+      by [] e = cc
+      by (q ∷ qs) e = one-free qs q (is_free (lent_places (lent setup payload x past)) q) refl e (λ r. by qs r)
 
   -- the element that is lent next
   pub next-is : next_element (desk_of setup payload x past) ≡ record { rmb = p.rmb; index = p.index; epoch = epoch_in p (lendings x past) + 1 }
