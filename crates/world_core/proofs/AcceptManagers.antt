@@ -50,7 +50,7 @@ use Rattle.world_core.proofs.StartedRows.{rows-change, epoch-stays, not-of-free,
 use Rattle.world_core.proofs.SameManagers.{desk_from, rows_from, conn_from, route_from, same-conn, same-spare}
 use Rattle.world_core.proofs.LinkManagers.{stage-desk}
 use Rattle.world_core.proofs.KeptManagers.{by-parts}
-use Rattle.world_core.proofs.Lendings.{no-lending-due}
+use Rattle.world_core.proofs.Lendings.{no-lending-due, lending-due}
 use Rattle.world_core.proofs.Tables.{same-sockets, set-socket, at-socket}
 
 -- how far an Accept leads the link
@@ -324,3 +324,20 @@ module _ {s : ℕ} {first : Bool} {from to : Stage} (setup : Setup) (payload : L
       by-parts setup payload regions A (e ∷ past) (desk_of setup payload A past) (each_socket (hand_of A past) setup.sockets) (each_socket (conn_of setup payload A past) setup.sockets) (length (lendings A past)) (length (free_places setup payload A past))
       desk-a (same-sockets (hand_of A (e ∷ past)) (hand_of A past) (λ t. hand-by A t (state-a t)) setup.sockets) (same-sockets (conn_of setup payload A (e ∷ past)) (conn_of setup payload A past) conn-a setup.sockets)
       refl (same-spare setup payload A (e ∷ past) past lent-a)
+
+  due-by : (y : Side) (t : ℕ) → end_state y t (e ∷ past) ≡ end_state y t past → offered y t (e ∷ past) ≡ offered y t past → lending_due y t (e ∷ past) ≡ lending_due y t past
+  due-by y t st of =
+      ap (λ st. if keeps_element st then option_map (λ (o : Offered). lends_by t o.link o.offer) (offered y t (e ∷ past)) else None) st
+      ∙ ap (λ q. if keeps_element (end_state y t past) then option_map (λ (o : Offered). lends_by t o.link o.offer) q else None) of
+
+  -- each socket has its lending
+  pub accepts-lendings : HasLendings setup payload (e ∷ past)
+  accepts-lendings = record { each = by-side (λ y. (t : ℕ) → lending_on t (lent setup payload y (e ∷ past)) ≡ lending_due y t (e ∷ past)) of_a (λ t. of_b t (t == s) refl) }
+    where
+      of_a : (t : ℕ) → lending_on t (lent setup payload A (e ∷ past)) ≡ lending_due A t (e ∷ past)
+      of_a t = ap (λ (ls : List Lending). lending_on t ls) lent-a ∙ (lendings_are.each A t ∙ sym (due-by A t (state-a t) refl))
+
+      of_b : (t : ℕ) (b : Bool) → (t == s) ≡ b → lending_on t (lent setup payload B (e ∷ past)) ≡ lending_due B t (e ∷ past)
+      of_b t true i = subst (λ k. lending_on k (lent setup payload B (e ∷ past)) ≡ lending_due B k (e ∷ past)) (sym (eqb-true t s i))
+          (lending-here ∙ sym (lending-due B s (e ∷ past) (record { link = the_link; offer = o }) offer-b (ap (λ st. keeps_element st) state-here)))
+      of_b t false d = lending-else t d ∙ (lendings_are.each B t ∙ sym (due-by B t (state-else t d) (offer-else t d)))
