@@ -10,7 +10,9 @@ use Rattle.pipe_model.specs.declared.reply.Reply.TheVariants.{Established}
 use Rattle.pipe_model.specs.declared.reply.ResetCause.TheVariants.{NoLiveLink, BadStep}
 use Rattle.pipe_model.specs.declared.verdict.ClcStep.{ClcStep}
 use Rattle.pipe_model.specs.declared.verdict.ClcStep.TheVariants.{SendAccept, SendConfirm, AskKey, Wait, Decline, Fell, Ready, Lost, Wrong}
-use Rattle.pipe_model.specs.Connections.{EndState, WaitsProposal, WaitsAnswer, WaitsConfirm, WaitsLink, IsUp, HasFallen, WasReset, after_clc}
+use Rattle.pipe_model.specs.Connections.{EndState, WaitsProposal, WaitsAnswer, WaitsConfirm, WaitsLink, IsUp, HasFallen, WasReset, NoEnd, after_clc}
+use Rattle.clc_handshake.specs.declared.stage.EndState.{EndState as Seen}
+use Rattle.clc_handshake.specs.declared.stage.EndState.TheVariants.{Absent, Clc as SeenClc, Link as SeenLink, Up as SeenUp, FellBack as SeenFallen, Reset as SeenReset}
 use Rattle.clc_handshake.specs.declared.stage.Stage.{Stage}
 use Rattle.clc_handshake.specs.declared.stage.Stage.TheVariants.{Proposal as AwaitsProposal, Answer, Confirm as AwaitsConfirm, Link, Up, FellBack, Reset}
 
@@ -28,6 +30,17 @@ state_of Link = WaitsLink
 state_of Up = IsUp
 state_of FellBack = HasFallen
 state_of (Reset cause) = WasReset cause
+
+-- what others see of an end; which CLC message it waits for they don't
+abbrev pub seen_state : EndState → Seen
+seen_state NoEnd = Absent
+seen_state WaitsProposal = SeenClc
+seen_state WaitsAnswer = SeenClc
+seen_state WaitsConfirm = SeenClc
+seen_state WaitsLink = SeenLink
+seen_state IsUp = SeenUp
+seen_state HasFallen = SeenFallen
+seen_state (WasReset cause) = SeenReset cause
 
 -- what an end waits for first: at B for a Proposal, at A for the answer to its own
 abbrev pub first_state : Side → EndState

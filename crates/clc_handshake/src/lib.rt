@@ -7,9 +7,10 @@
 //! a key is asked first, is awaited again.
 #![tactic(auto)]
 
-ghost use Rattle.std.specs.Prelude.{◌≡◌};
+ghost use Rattle.std.specs.Prelude.{◌≡◌, false};
+ghost use Rattle.pipe_model.specs.Connections.{HasFallen, IsUp};
 ghost use Rattle.pipe_model.specs.Handshake.{verdict};
-ghost use Rattle.clc_handshake.specs.Stages.{first_state, after_step};
+ghost use Rattle.clc_handshake.specs.Stages.{first_state, after_step, seen_state};
 
 mod laws;
 mod rules;
@@ -18,6 +19,7 @@ mod stage;
 use crate::stage::Stage;
 pub use laws::a_reply_tells_the_state;
 use pipe_model::{ClcMessage, ClcStep, Lacks, Side};
+pub use stage::EndState;
 use std::marker::Model;
 
 /// An end in its handshake.
@@ -46,6 +48,30 @@ impl Handshake {
             Side::B => Stage::Proposal,
         };
         Handshake { raw, stage }
+    }
+
+    /// An end that goes on over TCP alone from the start.
+    pub fn fallen() -> Handshake
+        ensures { result ≡ record { raw = false; state = HasFallen } }
+    {
+        Handshake {
+            raw: false,
+            stage: Stage::FellBack,
+        }
+    }
+
+    /// What the end waits for, or what has become of it.
+    pub fn state(&self) -> EndState
+        ensures { result ≡ seen_state self.now.state }
+    {
+        stage::seen(self.stage)
+    }
+
+    /// The link is confirmed, and with it the end is established.
+    pub fn rise(&mut self)
+        ensures { self.new ≡ record self.old { state = IsUp } }
+    {
+        self.stage = Stage::Up;
     }
 
     /// The step that `on` would answer now; nothing changes.
@@ -141,7 +167,11 @@ mod tests {
             ClcStep::SendAccept { first: true }
         );
         let confirm = ClcMessage::Confirm(offer(true));
+        assert_eq!(rt; end.state(), EndState::Clc);
         assert_eq!(rt; end.on(&confirm, &FACTS), ClcStep::Ready);
+        assert_eq!(rt; end.state(), EndState::Link);
+        end.rise();
+        assert_eq!(rt; end.state(), EndState::Up);
 
         let mut end = Handshake::new(Side::B, false);
         assert_eq!(rt;
@@ -179,6 +209,7 @@ mod tests {
 
         let mut end = Handshake::new(Side::A, false);
         assert_eq!(rt; end.on(&DECLINE, &FACTS), ClcStep::Fell);
+        assert_eq!(rt; end.state(), Handshake::fallen().state());
     }
 
     #[test]

@@ -2,7 +2,7 @@
 #![tactic(auto)]
 
 ghost use Rattle.std.specs.Prelude.{◌≡◌};
-ghost use Rattle.clc_handshake.specs.Stages.{state_of, after_confirm, after_ready, after_step, named_group};
+ghost use Rattle.clc_handshake.specs.Stages.{state_of, seen_state, after_confirm, after_ready, after_step, named_group};
 
 use pipe_model::{ClcMessage, ClcStep, ResetCause};
 
@@ -23,6 +23,36 @@ pub enum Stage {
     FellBack,
     /// It was reset.
     Reset(ResetCause),
+}
+
+/// What others see of an end: what it waits for, or what has become of it.
+#[derive(Clone, Copy, Debug, PartialEq, Eq)]
+pub enum EndState {
+    /// There is no end.
+    Absent,
+    /// It waits for a CLC message.
+    Clc,
+    /// It waits for its link to be confirmed.
+    Link,
+    /// It is established.
+    Up,
+    /// It goes on over TCP alone.
+    FellBack,
+    /// It was reset.
+    Reset(ResetCause),
+}
+
+/// What others see of an end in this stage.
+pub fn seen(stage: Stage) -> EndState
+    ensures { result ≡ seen_state (state_of stage) }
+{
+    match stage {
+        Stage::Proposal | Stage::Answer | Stage::Confirm => EndState::Clc,
+        Stage::Link => EndState::Link,
+        Stage::Up => EndState::Up,
+        Stage::FellBack => EndState::FellBack,
+        Stage::Reset(cause) => EndState::Reset(cause),
+    }
 }
 
 /// The stage behind a Confirm that was sent or taken.

@@ -1,2 +1,4 @@
 pub mod Changes
+pub mod Counts
 pub mod Lowest
+pub mod Once

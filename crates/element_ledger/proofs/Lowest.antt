@@ -7,7 +7,7 @@ use Rattle.smc_num.specs.Places.{Place, same_place, places_in, all_places, is_fr
 use Rattle.element_ledger.specs.Lendings.{Row, is_lent, first_free, lent_places}
 
 -- no place stands twice
-abbrev AreApart : List Place → Type 0
+abbrev pub AreApart : List Place → Type 0
 AreApart [] = Unit {0}
 AreApart (p ∷ ps) = (list_any (same_place p) ps ≡ false) × AreApart ps
 
@@ -15,7 +15,7 @@ and_false : (a b : Bool) → b ≡ false → (a && b) ≡ false
 and_false true b e = e
 and_false false b e = refl
 
-or_false : (a b : Bool) → (a || b) ≡ false → (a ≡ false) × (b ≡ false)
+pub or_false : (a b : Bool) → (a || b) ≡ false → (a ≡ false) × (b ≡ false)
 or_false true b e = cc
 or_false false b e = (refl, e)
 
@@ -57,7 +57,7 @@ row_below : (n a m b k : ℕ) → AllByRecursion (λ p. list_any (same_place p) 
 row_below n a m b zero = tt
 row_below n a m b (suc k) = (none_above (in_rmb a b) n (a + 1) m (omega arith), row_below n a m (b + 1) k)
 
-rows_apart : (n a m : ℕ) → AreApart (flat_map (places_in n) (range_with_len a m))
+pub rows_apart : (n a m : ℕ) → AreApart (flat_map (places_in n) (range_with_len a m))
 rows_apart n a zero = tt
 rows_apart n a (suc m) = apart-append (places_in n a) (flat_map (places_in n) (range_with_len (a + 1) m)) (row_apart a 1 n) (rows_apart n (a + 1) m) (row_below n a m 1 n)
 
@@ -74,10 +74,10 @@ none_lent test (r ∷ rows) none = let both = or_false (test r.place) (list_any 
 abbrev Agree : List Place → List Row → Type 0
 Agree taken rows = AllByRecursion (λ r. is_free taken r.place ≡ not (is_lent r)) rows
 
-same_refl : (p : Place) → same_place p p ≡ true
+pub same_refl : (p : Place) → same_place p p ≡ true
 same_refl p = ap (λ b. b && (p.index == p.index)) (eq-eqb p.rmb p.rmb refl) ∙ eq-eqb p.index p.index refl
 
-same-flip : (p q : Place) → same_place p q ≡ false → same_place q p ≡ false
+pub same-flip : (p q : Place) → same_place p q ≡ false → same_place q p ≡ false
 same-flip p q e = by_test (same_place q p) refl
   where
     by_test : (b : Bool) → same_place q p ≡ b → b ≡ false

@@ -1,5 +1,5 @@
 -- The elements of a side's RMBs, how often each was lent, and to which connection it is lent now.
-use Rattle.std.specs.Prelude.{◌≡◌, ℕ, ◌+◌, ◌==◌, ◌&&◌, not, Bool, true, false, if◌then◌else◌, List, map, filter, find, Option, Some, None, is_some, option_and_then, IsSome}
+use Rattle.std.specs.Prelude.{◌≡◌, ℕ, ◌+◌, ◌==◌, ◌&&◌, not, Bool, true, false, if◌then◌else◌, List, ◌∷◌, ◌++◌, map, filter, find, Option, Some, None, is_some, option_and_then, IsSome}
 use Rattle.std.specs.List.{list_any}
 use Rattle.std.specs.Option.{option_map_or}
 use Rattle.smc_num.specs.Places.{Place, same_place, all_places}
@@ -93,3 +93,18 @@ own_gone e rows = option_map_or (λ (l : Lending). l.own) (lending_of e rows) fa
 -- whether the peer's end has gone
 abbrev pub peer_gone : Element → List Row → Bool
 peer_gone e rows = option_map_or (λ (l : Lending). l.peer) (lending_of e rows) false
+
+-- an element stands once among these: a change of it leaves what stands before and after it
+pub record StandsOnce (r : Row) (rows : List Row) : Type 0 where
+  pub before : List Row
+  pub after : List Row
+  pub whole : rows ≡ before ++ r ∷ after
+  pub change : (f : Row → Row) → map (changes_at r.place f) rows ≡ before ++ f r ∷ after
+
+-- an element has that lending in its epoch, and stands once among these
+pub record HasLending (e : Element) (l : Lending) (rows : List Row) : Type 0 where
+  pub row : Row
+  pub place : row.place ≡ place_of e
+  pub epoch : row.epoch ≡ e.epoch
+  pub lending : row.lending ≡ Some l
+  pub once : StandsOnce row rows

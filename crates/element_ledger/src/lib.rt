@@ -6,15 +6,17 @@
 //! from 1, so that what was said of an earlier lending is never taken for one of the present.
 #![tactic(auto)]
 
-ghost use Rattle.std.specs.Prelude.{◌≡◌, ◌-◌, ◌<◌, ◌^◌, ◌&&◌, ◌↔◌, false, All, map, Some, option_and_then, option_map, IfErr, IfNone, IfOk, IfSome, IsErr, OnErr, OnOk};
+ghost use Rattle.std.specs.Prelude.{◌≡◌, ◌-◌, ◌<◌, ◌^◌, ◌&&◌, ◌↔◌, false, not, All, filter, length, map, Some, option_and_then, option_map, IfErr, IfNone, IfOk, IfSome, IsErr, OnErr, OnOk};
 ghost use Rattle.smc_num.specs.Places.{all_places, lowest_free};
-ghost use Rattle.element_ledger.specs.Lendings.{IsLedger, IsLent, changed, changed_lending, changes_at, first_free, freed, fresh, is_idle, lending_of, lends, lent_places, next_lending, own_gone, peer_gone, place_of};
+ghost use Rattle.element_ledger.specs.Lendings.{IsLedger, IsLent, changed, changed_lending, changes_at, first_free, freed, fresh, is_idle, is_lent, lending_of, lends, lent_places, next_lending, own_gone, peer_gone, place_of};
 ghost use Rattle.element_ledger.specs.declared.rows.Change.TheVariants.{OwnGone, PeerGone, GivenBack};
 
+pub mod laws;
 mod rows;
 
 use crate::rows::{
-    Change, Row, all_rows, change_at, first_free, free_all, is_idle, lend_at, lending_of,
+    Change, Row, all_rows, change_at, count_free, first_free, free_all, is_idle, lend_at,
+    lending_of,
 };
 use smc_num::NoMemory;
 use std::alloc::Global;
@@ -45,13 +47,15 @@ pub struct Ledger {
 }
 
 impl Model for Ledger {
+    ghost use Rattle.std.specs.Prelude.{◌≤◌};
     ghost use Rattle.element_ledger.specs.Lendings.{Rows, IsLedger};
 
     ghost Value = { Rows };
 
     ghost view = { λ l. record { rmbs = l.rmbs; elements = l.elements; rows = l.rows.items } };
 
-    ghost invariant = { λ l. IsLedger (record { rmbs = l.rmbs; elements = l.elements; rows = l.rows.items }) };
+    ghost invariant = { λ l. IsLedger (record { rmbs = l.rmbs; elements = l.elements; rows = l.rows.items })
+        × (l.rmbs ≤ 255) × (l.elements ≤ 255) };
 }
 
 impl Ledger {
@@ -135,6 +139,13 @@ impl Ledger {
         free_all(&mut self.rows);
     }
 
+    /// How many elements are free.
+    pub fn free(&self) -> u16
+        ensures { result ≡ length (filter (λ r. not (is_lent r)) self.now.rows) }
+    {
+        count_free(&self.rows)
+    }
+
     /// Whether no element of the RMB is lent.
     pub fn idle(&self, rmb: u8) -> bool
         ensures { result ≡ is_idle rmb self.now.rows }
@@ -170,6 +181,7 @@ mod tests {
     fn an_element_is_given_back_by_both_ends(rt: HostRuntime) -> Result<(), Fail> {
         let mut ledger = Ledger::new(rt.alloc(), 1, 2)?;
         assert_eq!(rt; ledger.next_free(), Some((1, 1)));
+        assert_eq!(rt; ledger.free(), 2);
         let peer_alone = Err(StillLent {
             own: false,
             peer: true,

@@ -1,5 +1,5 @@
 //! The elements as a list: what it has, and how it changes.
-ghost use Rattle.std.specs.Prelude.{◌≡◌, ◌+◌, ◌-◌, ◌*◌, ◌<◌, ◌≤◌, ◌^◌, ◌++◌, ◌∷◌, [], All, map, length, vec_len, vec_capacity, IfOk};
+ghost use Rattle.std.specs.Prelude.{◌≡◌, ◌+◌, ◌-◌, ◌*◌, ◌<◌, ◌≤◌, ◌^◌, ◌++◌, ◌∷◌, [], not, All, filter, map, length, vec_len, vec_capacity, IfOk};
 ghost use Rattle.smc_num.specs.Places.{all_places, places_in, same_place};
 ghost use Rattle.element_ledger.specs.Lendings.{changed, changed_lending, changes_at, first_free, freed, fresh, is_idle, is_lent, is_now, lending_of, lends, next_lending, place_of};
 
@@ -179,6 +179,20 @@ pub(crate) fn first_free(rows: &[Row]) -> Option<Row>
         }
     }
     None
+}
+
+/// How many elements are free.
+pub(crate) fn count_free(rows: &[Row]) -> u16
+    requires { length rows.now < 2 ^ 16 }
+    ensures { result ≡ length (filter (λ r. not (is_lent r)) rows.now) }
+{
+    let mut free = 0;
+    for row in rows {
+        if !row.is_lent() {
+            free += 1;
+        }
+    }
+    free
 }
 
 /// Lends an element.

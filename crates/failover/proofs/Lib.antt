@@ -1,2 +1,3 @@
 pub mod KnownLinks
+pub mod LiveLinks
 pub mod Shown

@@ -1,15 +1,16 @@
 -- What a table shows after each call, with its phases and links in arrays of which the first places are in use.
-use Rattle.std.proofs.Common.{◌≡◌, ◌∙◌, ℕ, zero, suc, ◌+◌, ◌-◌, ◌<◌, ◌≤◌, true, false, List, [], ◌∷◌, length, map, get_or, set, take, replicate, Some, None, option_map, refl, sym, ap, subst, arith}
+use Rattle.std.proofs.Common.{◌≡◌, ◌∙◌, ℕ, zero, suc, ◌+◌, ◌-◌, ◌<◌, ◌≤◌, true, false, List, [], ◌∷◌, length, map, get_or, set, take, replicate, Some, None, option_map, ◌&&◌, ◌⊎◌, inl, inr, refl, sym, ap, subst, arith}
 use Rattle.std.specs.Prelude.{if◌then◌else◌}
 use Rattle.std.specs.List.{range_with_len}
 use Rattle.std.proofs.lemmas.List.{length-take-le, get_or-take}
 use Rattle.smc_num.specs.declared.LinkId.{LinkId}
 use Rattle.smc_num.specs.declared.LinkPhase.{LinkPhase}
 use Rattle.smc_num.specs.declared.LinkPhase.TheVariants.{Unused, Pending, Live, Dead}
-use Rattle.smc_num.specs.Names.{no_link, up_to}
-use Rattle.smc_num.specs.Links.{same_phase, is_standing, phase_at, link_at, put, set_phase, first_live}
+use Rattle.smc_num.specs.Names.{has_link, same_link, no_link, up_to}
+use Rattle.smc_num.specs.Links.{same_phase, is_live, live_links, is_standing, phase_at, link_at, put, set_phase, first_live}
 use Rattle.failover.specs.Choices.{lowest_from}
 use Rattle.failover.specs.Tables.{known_in, AreInOrder}
+use Rattle.failover.proofs.LiveLinks.{live_in, none_live}
 use Rattle.failover.proofs.KnownLinks.{phase_in, link_in, phase_set, link_put, order_set, lowest_in, phases_in}
 
 -- a write below the end of a front is a write in the front
@@ -91,6 +92,21 @@ module _ (n : ℕ) (ps : List LinkPhase) (ls : List LinkId) (shown : IsShown n p
 
   pub lowest_shown : lowest_from 1 (take n ps) ≡ option_map (λ (link : LinkId). link.slot) (first_live (known_in (take n ps) (take n ls)))
   lowest_shown = lowest_in 1 (take n ps) (take n ls) as_long shown.order
+
+  -- whether that very link is live
+  pub live_shown : (link : LinkId) → 1 ≤ link.slot → link.slot ≤ n
+      → has_link link (live_links (known_in (take n ps) (take n ls))) ≡ (is_live (get_or ps (link.slot - 1) Unused) && same_link link (get_or ls (link.slot - 1) no_link))
+  live_shown link low high =
+      let s = shown.slots in let p = shown.phases in
+      live_in link 1 (link.slot - 1) (take n ps) (take n ls) as_long shown.order (omega (arith, low)) (let long = length-take-le n ps (omega (arith, s, p)) in omega (arith, long, low, high))
+      ∙ (ap (λ q. is_live q && same_link link (get_or (take n ls) (link.slot - 1) no_link)) (get_or-take n ps (link.slot - 1) Unused (omega (arith, low, high)))
+      ∙ ap (λ l. is_live (get_or ps (link.slot - 1) Unused) && same_link link l) (get_or-take n ls (link.slot - 1) no_link (omega (arith, low, high))))
+
+  pub none_shown : (link : LinkId) → (link.slot < 1) ⊎ (n < link.slot) → has_link link (live_links (known_in (take n ps) (take n ls))) ≡ false
+  none_shown link out =
+      let s = shown.slots in let l = shown.links in
+      let long = length-take-le n ls (omega (arith, s, l)) in
+      none_live link 1 (take n ps) (take n ls) (λ k low high e. elim out [ inl below ↦ omega (arith, below, low, e) | inr above ↦ omega (arith, above, high, long, e) ]) shown.order
 
   -- the link of a slot
   pub link_shown : (slot : ℕ) → 1 ≤ slot → slot ≤ n

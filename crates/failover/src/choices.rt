@@ -6,7 +6,7 @@ ghost use Rattle.failover.specs.Choices.{lowest_from, is_live_at, IsBest, IsFewe
 use smc_num::LinkPhase;
 
 /// Whether a link in this phase is live.
-fn is_live(phase: LinkPhase) -> bool
+pub(crate) fn is_live(phase: LinkPhase) -> bool
     ensures { result ≡ is_live phase }
 {
     match phase {

@@ -8,8 +8,8 @@
 #![tactic(auto)]
 
 ghost use Rattle.std.specs.Prelude.{◌≡◌, ◌+◌, ◌-◌, ◌≤◌, ◌↔◌, false, true, [], ◌∷◌, length, map, option_map, replicate, slice_index, slice_set, IfSome, IsNone, All};
-ghost use Rattle.smc_num.specs.Names.{up_to};
-ghost use Rattle.smc_num.specs.Links.{first_live, is_live, is_standing, link_at, phase_at, put, set_phase};
+ghost use Rattle.smc_num.specs.Names.{has_link, up_to};
+ghost use Rattle.smc_num.specs.Links.{first_live, is_live, is_standing, link_at, live_links, lowest_live, phase_at, put, set_phase};
 ghost use Rattle.smc_num.specs.declared.LinkPhase.TheVariants.{Pending, Live, Dead};
 ghost use Rattle.failover.specs.Choices.{lowest_from, IsFewest, is_due_for_move};
 ghost use Rattle.failover.specs.Tables.{Links};
@@ -17,6 +17,7 @@ ghost use Rattle.failover.specs.Tables.{Links};
 mod choices;
 pub mod laws;
 
+use crate::choices::is_live;
 pub use crate::choices::{due_for_move, fewest, lowest_live};
 use smc_num::{LinkId, LinkPhase};
 use std::marker::Model;
@@ -140,6 +141,27 @@ impl LinkTable {
         }
     }
 
+    /// Whether that very link is live.
+    pub fn is_live(&self, link: LinkId) -> bool
+        ensures { result ≡ has_link link (live_links self.now.known) }
+    {
+        if self.slots < link.slot {
+            return false;
+        }
+        if link.slot == 0 {
+            return false;
+        }
+        let at = link.slot as usize - 1;
+        is_live(self.phases[at]) && link == self.latest[at]
+    }
+
+    /// The lowest slot whose link is live, or 0.
+    pub fn lowest(&self) -> u8
+        ensures { result ≡ lowest_live self.now.known }
+    {
+        lowest_live(&self.phases[..self.slots as usize]).unwrap_or(0)
+    }
+
     /// The phases in the order of the slots.
     pub fn phases(&self) -> &[LinkPhase]
         ensures phases { result.now ≡ map (λ k. phase_at k self.now.known) (up_to self.now.slots) }
@@ -185,6 +207,9 @@ mod tests {
         assert!(rt; due_for_move(LinkPhase::Dead, false));
         assert!(rt; !due_for_move(LinkPhase::Dead, true));
         assert!(rt; !due_for_move(LinkPhase::Live, false));
+        assert_eq!(rt; table.lowest(), 2);
+        assert!(rt; table.is_live(SECOND));
+        assert!(rt; !table.is_live(FIRST));
         assert_eq!(rt; table.link(1), Some(FIRST));
         assert_eq!(rt; table.made(1), 1);
         table.report(2);

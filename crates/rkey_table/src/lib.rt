@@ -13,7 +13,7 @@ ghost use Rattle.rkey_table.specs.Tables.{Table, AllUsed, IsTable};
 mod keys;
 pub mod laws;
 
-use crate::keys::{Entry, bind, is_used, number_for, remove_key, rmb_of};
+use crate::keys::{Entry, bind, is_used, number_for, number_of, remove_key, rmb_of};
 use smc_num::{LinkId, NoMemory};
 use std::alloc::Global;
 use std::marker::Model;
@@ -98,6 +98,13 @@ impl KeyTable {
     {
         rmb_of(&self.keys, key, link)
     }
+
+    /// The number of an RMB for a slot, where it has one.
+    pub fn number(&self, rmb: u8, slot: u8) -> Option<u32>
+        ensures { result ≡ key_for_slot rmb slot self.now.keys }
+    {
+        number_of(&self.keys, rmb, slot)
+    }
 }
 
 #[cfg(test)]
@@ -129,6 +136,8 @@ mod tests {
         }
         assert_eq!(rt; table.lookup(514, link(1, 2)), Some(2));
         assert_eq!(rt; table.lookup(514, link(1, 1)), None);
+        assert_eq!(rt; table.number(2, 1), Some(514));
+        assert_eq!(rt; table.number(3, 1), None);
         assert_eq!(rt; table.withdraw(513), Ok(()));
         assert_eq!(rt; table.withdraw(513), Err(NoKey));
         assert_eq!(rt; table.lookup(513, link(1, 1)), None);

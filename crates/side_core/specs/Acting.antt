@@ -2,9 +2,9 @@
 -- A reader learns here which end of a connection acts, under which key its bytes go, and where a remote write of the peer lands.
 use Rattle.std.specs.Prelude.{◌≡◌, ◌≤◌, ◌<◌, ◌^◌, ℕ, ◌+◌, ◌-◌, ◌==◌, ◌&&◌, Bool, true, false, if◌then◌else◌, List, [], ◌∷◌, ◌++◌, map, slice_index_or, slice_set, Option, Some, None, option_map}
 use Rattle.smc_num.specs.declared.LinkId.{LinkId}
-use Rattle.smc_num.specs.declared.LinkPhase.TheVariants.{Pending, Live as LiveLink}
+use Rattle.smc_num.specs.declared.LinkPhase.TheVariants.{Live as LiveLink}
 use Rattle.smc_num.specs.Names.{has_link}
-use Rattle.smc_num.specs.Links.{live_links, link_at, phase_at}
+use Rattle.smc_num.specs.Links.{live_links, link_at}
 use Rattle.smc_num.specs.Keys.{rmb_bound}
 use Rattle.clc_wire.specs.declared.offer.Offer.{Offer}
 use Rattle.llc_wire.specs.declared.LlcMessage.{LlcMessage}
@@ -13,7 +13,8 @@ use Rattle.pipe_model.specs.declared.post.Post.{Post}
 use Rattle.pipe_model.specs.declared.post.Post.TheVariants.{Llc}
 use Rattle.pipe_model.specs.declared.flow.FlowStep.{FlowStep}
 use Rattle.pipe_model.specs.declared.flow.FlowStep.TheVariants.{Live}
-use Rattle.pipe_model.specs.Flows.{FirstContact}
+use Rattle.pipe_model.specs.declared.flow.LinkView.{LinkView}
+use Rattle.pipe_model.specs.Flows.{flow_step}
 use Rattle.pipe_model.specs.Ends.{Half, comes_up, meets_fate}
 use Rattle.pipe_model.specs.Calls.{Call, calls}
 use Rattle.pipe_model.specs.Connections.{WaitsLink, IsUp}
@@ -25,7 +26,7 @@ use Rattle.side_core.specs.declared.route.Route.{Route}
 use Rattle.side_core.specs.declared.route.Way.{Way}
 use Rattle.side_core.specs.Records.{Connection, Records, conn_at, settles, rises}
 use Rattle.side_core.specs.Posting.{due_posts}
-use Rattle.side_core.specs.Desk.{Desk, peer_key, pair_at, goes_live, IsConfirmLink}
+use Rattle.side_core.specs.Desk.{Desk, peer_key, pair_at, goes_live, IsConfirmLink, IsPendingFor}
 use Rattle.side_core.specs.Manager.{Manager, state_at, with_state}
 
 -- the key under which a connection writes to what its peer offered, 0 where nothing is known of that
@@ -108,15 +109,24 @@ abbrev pub confirming_posts : FlowStep → LinkId → Manager Half → List Post
 confirming_posts (Live reply first) link m = confirm_reply reply link m ++ (if first then risen_at m.desk.first (link_lives link m) else [])
 confirming_posts _ link m = []
 
--- what a caller must see to: the link is the side's, and where it is confirmed in first contact it is pending, and the end of its
+-- that the end of the socket in first contact waits for its link where a step confirms that
+abbrev pub IsWaitingFor : {E : Type 0} → FlowStep → Manager E → Type 0
+IsWaitingFor (Live reply true) m = state_at m.desk.first m ≡ WaitsLink
+IsWaitingFor _ m = Unit {0}
+
+-- what a side does with a message on a link
+abbrev pub step_at : {E : Type 0} → LlcMessage → LinkView → LinkId → Manager E → FlowStep
+step_at message view link m = flow_step m.desk.side m.desk.flow message view link.slot true
+
+-- what a caller must see to: the link is the side's, and where it is confirmed it is pending, and in first contact the end of its
 -- socket waits for it
-pub record MayConfirm {E : Type 0} (message : LlcMessage) (link : LinkId) (m : Manager E) : Type 0 where
+pub record MayConfirm {E : Type 0} (message : LlcMessage) (view : LinkView) (link : LinkId) (m : Manager E) : Type 0 where
   pub kind : IsConfirmLink message
   pub slot : link.slot ≡ 1
   pub group : (m.desk.group == 0) ≡ false
   pub latest : link_at link.slot m.desk.links.known ≡ Some link
-  pub pending : m.desk.flow.link ≡ FirstContact → phase_at link.slot m.desk.links.known ≡ Pending
-  pub waits : m.desk.flow.link ≡ FirstContact → state_at m.desk.first m ≡ WaitsLink
+  pub pending : IsPendingFor (step_at message view link m) link.slot m.desk.links.known
+  pub waits : IsWaitingFor (step_at message view link m) m
 
 -- the counts of an end are far from their ends, and what it was told fits into the element behind what was read
 pub record IsSound (size : ℕ) (k : Kept) : Type 0 where

@@ -1,12 +1,12 @@
 -- What a side keeps beside its connections: its group, its links and flows, its keys and those of its peer, and its elements.
 -- A reader learns here which facts a CLC message is judged by, and what first contact and the confirmation of a link change.
-use Rattle.std.specs.Prelude.{ℕ, ◌+◌, ◌*◌, ◌-◌, not, Bool, if◌then◌else◌, List, [], length, map, filter, replicate, slice_index_or, slice_set, Option, option_map, unwrap_or}
+use Rattle.std.specs.Prelude.{ℕ, ◌+◌, ◌*◌, ◌-◌, not, Bool, if◌then◌else◌, List, [], length, map, filter, replicate, slice_index_or, slice_set, Option, option_map, unwrap_or, ◌≡◌}
 use Rattle.std.specs.List.{position}
 use Rattle.smc_num.specs.declared.Side.{Side}
 use Rattle.smc_num.specs.declared.LinkId.{LinkId}
 use Rattle.smc_num.specs.declared.LinkPhase.TheVariants.{Pending, Live as LiveLink}
 use Rattle.smc_num.specs.Names.{at_side, has}
-use Rattle.smc_num.specs.Links.{put, set_phase}
+use Rattle.smc_num.specs.Links.{put, set_phase, Known, phase_at}
 use Rattle.smc_num.specs.Keys.{Key, key_base, number_for, bound, binds, registers}
 use Rattle.smc_num.specs.Places.{Place, all_places, rmb_at}
 use Rattle.clc_wire.specs.declared.offer.Offer.{Offer}
@@ -165,3 +165,8 @@ confirmed_by _ slot d = d
 abbrev pub IsConfirmLink : LlcMessage → Type 0
 IsConfirmLink (ConfirmLink reply mac gid qp link user most) = Unit {0}
 IsConfirmLink _ = ⊥
+
+-- that the link of a slot is pending where a step confirms it
+abbrev pub IsPendingFor : FlowStep → ℕ → List Known → Type 0
+IsPendingFor (Live reply first) slot known = phase_at slot known ≡ Pending
+IsPendingFor _ slot known = Unit {0}

@@ -1,5 +1,7 @@
 pub mod Acting
 pub mod Desk
+pub mod Fit
+pub mod Landing
 pub mod Manager
 pub mod Posting
 pub mod Records

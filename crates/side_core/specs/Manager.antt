@@ -26,6 +26,11 @@ pub record Manager (E : Type 0) : Type 0 where
 abbrev pub no_hand : Hand
 no_hand = record { raw = false; state = NoEnd }
 
+-- the handshake of a socket that may have an end
+abbrev pub hand_of : Option Hand → Hand
+hand_of None = no_hand
+hand_of (Some hand) = hand
+
 -- the handshake of a socket
 abbrev pub hand_at : {E : Type 0} → ℕ → Manager E → Hand
 hand_at s m = slice_index_or m.hands s no_hand
@@ -61,10 +66,14 @@ abbrev pub IsTiedAt : List Known → Option (Connection Half) → Type 0
 IsTiedAt known None = Unit {0}
 IsTiedAt known (Some c) = IsTied known c
 
+-- a desk and records stand for those of a plain manager, whose ends are tied to its links
+pub record Works (d : Desk) (r : Records Kept) (m : Manager Half) : Type 0 where
+  pub desk : d ≡ m.desk
+  pub records : AllStand r m.records
+  pub tied : (s : ℕ) → IsTiedAt m.desk.links.known (conn_at s m.records)
+
 -- a manager stands for a plain one
 pub record StandsFor (v : Manager Kept) (m : Manager Half) : Type 0 where
-  pub desk : v.desk ≡ m.desk
+  pub works : Works v.desk v.records m
   pub hands : v.hands ≡ m.hands
   pub regions : v.regions ≡ m.regions
-  pub records : AllStand v.records m.records
-  pub tied : (s : ℕ) → IsTiedAt m.desk.links.known (conn_at s m.records)

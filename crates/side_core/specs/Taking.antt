@@ -48,7 +48,7 @@ asks_link link message m = []
 -- the CLC and LLC posts of a verdict, where the message is about this link
 abbrev pub verdict_posts : {E : Type 0} → ℕ → ClcMessage → LinkId → List Bool → Manager E → ClcStep → List Post
 verdict_posts s message link paths m (SendAccept first) = let to : LinkId = offered_link first paths m in Clc m.desk.side s (Some to) (Accept (offer_for first to m)) ∷ []
-verdict_posts s message link paths m (SendConfirm first) = Clc m.desk.side s (Some link) (Confirm (offer_for first link m)) ∷ []
+verdict_posts s (Accept o) link paths m (SendConfirm first) = Clc m.desk.side s (Some link) (Confirm (offer_for first link m)) ∷ []
 verdict_posts s message link paths m (Decline lack) = Clc m.desk.side s None (DeclineMessage (refusal m.desk.side lack)) ∷ []
 verdict_posts s message link paths m Ready = asks_link link message m
 verdict_posts s message link paths m _ = []

@@ -1,6 +1,9 @@
-//! One peer: its group with its links, keys and elements, its handshakes, and the ends of its connections.
+//! One peer.
 #![tactic(auto)]
 
+mod desk;
+mod messages;
 mod route;
 
+pub use desk::Desk;
 pub use route::{Route, Way};

@@ -38,7 +38,7 @@ use Rattle.world_core.proofs.Ways.{way}
 use Rattle.world_core.proofs.EntryItems.{each-append, each-more, on-append, is_fate_or_up, fate-or-up-passes, below, below-calm, items-are, items-open, items-on, same-items}
 use Rattle.world_core.proofs.Parts.{part-open, part-on}
 use Rattle.world_core.proofs.Feasible.{is_no_message, can-more, can-land, can-complete, has-returning}
-use Rattle.world_core.proofs.AskedPosts.{asked-no-cdc, none-under, none-else}
+use Rattle.world_core.proofs.AskedPosts.{asked-control, none-under, none-else}
 use Rattle.world_core.proofs.Own.{own-none, own-some, IsOrNot, Is, IsNot, is-or-not, grouped, tokens-else, gone-below, gone-lands, gone-completes, room-below, later-below}
 
 both-pass : (item : Item) → passes_by A item ≡ true → passes_by B item ≡ true → is_no_message item ≡ true
@@ -58,7 +58,7 @@ each-both (i ∷ is) p q = (both-pass i p.0 q.0, each-both is p.1 q.1)
 pub fate-or-up-no-message : (item : Item) → is_fate_or_up item ≡ true → is_no_message item ≡ true
 fate-or-up-no-message item e = both-pass item (fate-or-up-passes A item e) (fate-or-up-passes B item e)
 
-each-drop : (P : Sent → Type 0) (n : ℕ) (ms : List Sent) → EachOf P ms → EachOf P (drop n ms)
+pub each-drop : (P : Sent → Type 0) (n : ℕ) (ms : List Sent) → EachOf P ms → EachOf P (drop n ms)
 each-drop P zero [] e = tt
 each-drop P zero (m ∷ ms) e = e
 each-drop P (suc n) [] e = tt
@@ -107,12 +107,12 @@ module _ (setup : Setup) (payload : List ℕ) (e : Entry) (past : List Entry) (b
 
   pub posts-on : EachPost (IsCdcOn the_link) e.posts
   posts-on = subst (λ ps. EachPost (IsCdcOn the_link) ps) (sym made.posts)
-      (posts-append the_link D.posts (connection_posts setup payload D past) (none-else the_link D.posts (asked-no-cdc setup payload past e.event D.reply made.built)) (pipes-on the_link setup payload D past given-on))
+      (posts-append the_link D.posts (connection_posts setup payload D past) (none-else the_link D.posts (asked-control setup payload past e.event D.reply made.built)) (pipes-on the_link setup payload D past given-on))
 
   -- the CDC messages of the entry are those of the pipes
   news-are : (x : Side) (token : ℕ) → filter_map (cdc_under x token) e.posts ≡ filter_map (cdc_under x token) (connection_posts setup payload D past)
   news-are x token = ap (λ ps. filter_map (cdc_under x token) ps) made.posts ∙ filter_map-append (cdc_under x token) D.posts (connection_posts setup payload D past) ∙
-      ap (λ ms. ms ++ filter_map (cdc_under x token) (connection_posts setup payload D past)) (none-under x token D.posts (asked-no-cdc setup payload past e.event D.reply made.built))
+      ap (λ ms. ms ++ filter_map (cdc_under x token) (connection_posts setup payload D past)) (none-under x token D.posts (asked-control setup payload past e.event D.reply made.built))
 
   offered-now : (x : Side) (s : ℕ) (o : Offered) → offered x s past ≡ Some o → is_offered past s ≡ true
   offered-now x s o f = ap (λ g. not (g == 0)) (grouped setup past offers x s o f)

@@ -34,26 +34,27 @@ use Rattle.world_core.specs.Played.{IsBuilt}
 use Rattle.world_core.specs.Wired.{cdc_under}
 use Rattle.world_core.specs.WireSteps.{IsCdcOn, EachPost}
 
--- that a post is no CDC message
-abbrev pub IsNoCdc : Post → Type 0
-IsNoCdc (Cdc from link m) = ⊥
-IsNoCdc _ = Unit {0}
+-- that a post is a CLC or an LLC message
+abbrev pub IsControl : Post → Type 0
+IsControl (Cdc from link m) = ⊥
+IsControl (WritePost from link key address len) = ⊥
+IsControl _ = Unit {0}
 
-append : (ps qs : List Post) → EachPost IsNoCdc ps → EachPost IsNoCdc qs → EachPost IsNoCdc (ps ++ qs)
+append : (ps qs : List Post) → EachPost IsControl ps → EachPost IsControl qs → EachPost IsControl (ps ++ qs)
 append [] qs p q = q
 append (post ∷ ps) qs p q = (p.0, append ps qs p.1 q)
 
-either : (b : Bool) (ps qs : List Post) → EachPost IsNoCdc ps → EachPost IsNoCdc qs → EachPost IsNoCdc (if b then ps else qs)
+either : (b : Bool) (ps qs : List Post) → EachPost IsControl ps → EachPost IsControl qs → EachPost IsControl (if b then ps else qs)
 either true ps qs p q = p
 either false ps qs p q = q
 
-ready : (setup : Setup) (s : ℕ) (m : ClcMessage) (past : List Entry) → EachPost IsNoCdc (ready_posts setup s m past)
+ready : (setup : Setup) (s : ℕ) (m : ClcMessage) (past : List Entry) → EachPost IsControl (ready_posts setup s m past)
 ready setup s (ConfirmMessage o) past = either o.first _ _ (tt, tt) tt
 ready setup s (ProposalMessage p) past = tt
 ready setup s (AcceptMessage o) past = tt
 ready setup s (DeclineMessage r) past = tt
 
-of-verdict : (setup : Setup) (payload : List ℕ) (x : Side) (s : ℕ) (m : ClcMessage) (past : List Entry) (step : ClcStep) → EachPost IsNoCdc (clc_posts setup payload x s m past step)
+of-verdict : (setup : Setup) (payload : List ℕ) (x : Side) (s : ℕ) (m : ClcMessage) (past : List Entry) (step : ClcStep) → EachPost IsControl (clc_posts setup payload x s m past step)
 of-verdict setup payload x s m past (SendAccept true) = (tt, tt)
 of-verdict setup payload x s m past (SendAccept false) = (tt, tt)
 of-verdict setup payload x s m past (SendConfirm first) = (tt, tt)
@@ -65,7 +66,7 @@ of-verdict setup payload x s m past Ready = ready setup s m past
 of-verdict setup payload x s m past Lost = tt
 of-verdict setup payload x s m past (Wrong kind) = tt
 
-of-front : (setup : Setup) (payload : List ℕ) (x : Side) (s : ℕ) (past : List Entry) (f : Front) → EachPost IsNoCdc (front_posts setup payload x s past f)
+of-front : (setup : Setup) (payload : List ℕ) (x : Side) (s : ℕ) (past : List Entry) (f : Front) → EachPost IsControl (front_posts setup payload x s past f)
 of-front setup payload x s past NoMessage = tt
 of-front setup payload x s past (Faulty fault) = tt
 of-front setup payload x s past (Whole m len) = of-verdict setup payload x s m past (clc_step setup payload x s m past)
@@ -83,12 +84,12 @@ pub either-llc : (b : Bool) (ps qs : List Post) → EachPost IsLlc ps → EachPo
 either-llc true ps qs p q = p
 either-llc false ps qs p q = q
 
-llc-no-cdc : (posts : List Post) → EachPost IsLlc posts → EachPost IsNoCdc posts
-llc-no-cdc [] p = tt
-llc-no-cdc (Llc from link m ∷ posts) p = (tt, llc-no-cdc posts p.1)
-llc-no-cdc (WritePost from link key address len ∷ posts) p = absurd p.0
-llc-no-cdc (Cdc from link m ∷ posts) p = absurd p.0
-llc-no-cdc (Clc from s link m ∷ posts) p = absurd p.0
+llc-control : (posts : List Post) → EachPost IsLlc posts → EachPost IsControl posts
+llc-control [] p = tt
+llc-control (Llc from link m ∷ posts) p = (tt, llc-control posts p.1)
+llc-control (WritePost from link key address len ∷ posts) p = absurd p.0
+llc-control (Cdc from link m ∷ posts) p = absurd p.0
+llc-control (Clc from s link m ∷ posts) p = absurd p.0
 
 of-key : (x : Side) (p : Peer) (keys : List Key) (rmbs : List ℕ) (phase : KeyPhase) → IsLlc (key_again x p keys rmbs phase)
 of-key x p keys rmbs Free = tt
@@ -137,28 +138,28 @@ of-act setup x past None = tt
 of-act setup x past (Some act) = of-step setup x act.link act.message past act.step
 
 -- what an event that is built makes handshake and flows post
-pub asked-no-cdc : (setup : Setup) (payload : List ℕ) (past : List Entry) (event : Event) (reply : Reply) → IsBuilt setup (length payload) event → EachPost IsNoCdc (asked setup payload past event reply)
-asked-no-cdc setup payload past (Open s) Opened b = (tt, tt)
-asked-no-cdc setup payload past (Open s) _ b = tt
-asked-no-cdc setup payload past (ClcEvent s dir) Idle b = tt
-asked-no-cdc setup payload past (ClcEvent s dir) reply b = of-front setup payload (other dir) s past (front payload dir s past)
-asked-no-cdc setup payload past (Write end at len) reply b = tt
-asked-no-cdc setup payload past (Read end len) reply b = tt
-asked-no-cdc setup payload past (Deliver slot dir) reply b = llc-no-cdc _ (of-act setup (other dir) past (act_of (other dir) (option_map (λ c. c.post) (landing slot dir past)) past))
-asked-no-cdc setup payload past (Complete slot dir) reply b = tt
-asked-no-cdc setup payload past _ reply b = absurd b
+pub asked-control : (setup : Setup) (payload : List ℕ) (past : List Entry) (event : Event) (reply : Reply) → IsBuilt setup (length payload) event → EachPost IsControl (asked setup payload past event reply)
+asked-control setup payload past (Open s) Opened b = (tt, tt)
+asked-control setup payload past (Open s) _ b = tt
+asked-control setup payload past (ClcEvent s dir) Idle b = tt
+asked-control setup payload past (ClcEvent s dir) reply b = of-front setup payload (other dir) s past (front payload dir s past)
+asked-control setup payload past (Write end at len) reply b = tt
+asked-control setup payload past (Read end len) reply b = tt
+asked-control setup payload past (Deliver slot dir) reply b = llc-control _ (of-act setup (other dir) past (act_of (other dir) (option_map (λ c. c.post) (landing slot dir past)) past))
+asked-control setup payload past (Complete slot dir) reply b = tt
+asked-control setup payload past _ reply b = absurd b
 
 -- no CDC message is none under any token, and none on another link
-pub none-under : (x : Side) (token : ℕ) (posts : List Post) → EachPost IsNoCdc posts → filter_map (cdc_under x token) posts ≡ []
+pub none-under : (x : Side) (token : ℕ) (posts : List Post) → EachPost IsControl posts → filter_map (cdc_under x token) posts ≡ []
 none-under x token [] p = refl
-none-under x token (WritePost from link key address len ∷ posts) p = none-under x token posts p.1
+none-under x token (WritePost from link key address len ∷ posts) p = absurd p.0
 none-under x token (Llc from link m ∷ posts) p = none-under x token posts p.1
 none-under x token (Clc from s link m ∷ posts) p = none-under x token posts p.1
 none-under x token (Cdc from link m ∷ posts) p = absurd p.0
 
-pub none-else : (link : LinkId) (posts : List Post) → EachPost IsNoCdc posts → EachPost (IsCdcOn link) posts
+pub none-else : (link : LinkId) (posts : List Post) → EachPost IsControl posts → EachPost (IsCdcOn link) posts
 none-else link [] p = tt
-none-else link (WritePost from l key address len ∷ posts) p = (tt, none-else link posts p.1)
+none-else link (WritePost from l key address len ∷ posts) p = absurd p.0
 none-else link (Llc from l m ∷ posts) p = (tt, none-else link posts p.1)
 none-else link (Clc from s l m ∷ posts) p = (tt, none-else link posts p.1)
 none-else link (Cdc from l m ∷ posts) p = absurd p.0

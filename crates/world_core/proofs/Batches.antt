@@ -29,19 +29,19 @@ use Rattle.world_core.proofs.Senders.{rests, deeds-are, deeds-rest, deeds-one, U
 
 module _ (setup : Setup) (payload : List ℕ) (e : Entry) (past : List Entry) (before n : ℕ) (made : IsMade setup payload past before e) (played : IsPlayed setup payload past n)
     (offers : HasOffers setup past) (only : IsOnlyLink past) (go : GoesOn e past) (shaken : IsShaken setup past) (calm : (x : Side) → IsCalm x e past) where
-  abbrev T : Terms
+  abbrev pub T : Terms
   T = terms_of setup
 
-  abbrev D : Entry
+  abbrev pub D : Entry
   D = draft setup payload past before e.event
 
-  abbrev G : ℕ → ℕ
+  abbrev pub G : ℕ → ℕ
   G s = group_on s past
 
-  abbrev P : ℕ → List Item
+  abbrev pub P : ℕ → List Item
   P s = part payload (G s) s past
 
-  abbrev F : ℕ → List Item
+  abbrev pub F : ℕ → List Item
   F s = reverse (fates A (G s) e past ++ fates B (G s) e past)
 
   p-open : (s : ℕ) → EachItem keeps_open (P s)
@@ -75,7 +75,7 @@ module _ (setup : Setup) (payload : List ℕ) (e : Entry) (past : List Entry) (b
       by (inr c) = absurd (true≢false (sym u ∙ c.1 s))
 
   -- what the fates leave of an end that is up
-  f-spares : (x : Side) (s : ℕ) → is_up x s past ≡ true → EachItem (spares x) (F s)
+  pub f-spares : (x : Side) (s : ℕ) → is_up x s past ≡ true → EachItem (spares x) (F s)
   f-spares A s u = each-reverse (spares A) (fates A (G s) e past ++ fates B (G s) e past) (each-append (spares A) (fates A (G s) e past) (fates B (G s) e past) (subst (λ is. EachItem (spares A) is) (sym (no-fates A s u)) tt) (fates-only (spares A) B (G s) e past (λ l p. refl)))
   f-spares B s u = each-reverse (spares B) (fates A (G s) e past ++ fates B (G s) e past) (each-append (spares B) (fates A (G s) e past) (fates B (G s) e past) (fates-only (spares B) A (G s) e past (λ l p. refl)) (subst (λ is. EachItem (spares B) is) (sym (no-fates B s u)) tt))
 
@@ -86,7 +86,7 @@ module _ (setup : Setup) (payload : List ℕ) (e : Entry) (past : List Entry) (b
   ups-on x s l f = let u = go.ups x s l f in u.0
 
   -- fates and establishments make no end post
-  below-rests : (x : Side) (s : ℕ) (u : Bool) → is_up x s past ≡ u → (half x (pipe T (below (G s) s e past ++ P s))).sent ≡ (half x (pipe T (P s))).sent
+  pub below-rests : (x : Side) (s : ℕ) (u : Bool) → is_up x s past ≡ u → (half x (pipe T (below (G s) s e past ++ P s))).sent ≡ (half x (pipe T (P s))).sent
   below-rests x s true u =
       let q = all-spared T x (F s) (P s) (f-spares x s u) in
       let o = on x s in
@@ -104,10 +104,10 @@ module _ (setup : Setup) (payload : List ℕ) (e : Entry) (past : List Entry) (b
   below-open : (s : ℕ) → EachItem keeps_open (below (G s) s e past ++ P s)
   below-open s = each-append keeps_open (below (G s) s e past) (P s) (each-more is_fate_or_up keeps_open fate-or-up-open (below (G s) s e past) (below-calm (G s) s e past go)) (p-open s)
 
-  over : (x : Side) (s : ℕ) → half x (pipe T (items payload (G s) s e past ++ P s)) ≡ half x (pipe T (deeds payload s e.event e.reply past ++ (below (G s) s e past ++ P s)))
+  pub over : (x : Side) (s : ℕ) → half x (pipe T (items payload (G s) s e past ++ P s)) ≡ half x (pipe T (deeds payload s e.event e.reply past ++ (below (G s) s e past ++ P s)))
   over x s = ap (λ is. half x (pipe T is)) (ap (λ is. is ++ P s) (items-are payload (G s) s e past) ∙ append_assoc (deeds payload s e.event e.reply past) (below (G s) s e past) (P s))
 
-  given-is : (x : Side) (s : ℕ) → given setup payload D past x s ≡ sent_since (half x (pipe T (P s))) (half x (pipe T (items payload (G s) s e past ++ P s)))
+  pub given-is : (x : Side) (s : ℕ) → given setup payload D past x s ≡ sent_since (half x (pipe T (P s))) (half x (pipe T (items payload (G s) s e past ++ P s)))
   given-is x s = ap (λ is. posts_of T x is (P s)) (draft-items setup payload e past before n made played offers only go shaken (G s) s)
 
   -- an end that rests posts nothing

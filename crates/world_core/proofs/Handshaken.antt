@@ -7,14 +7,21 @@ use Rattle.pipe_model.specs.Lawful.{draft}
 use Rattle.world_core.specs.Played.{IsOneLink, IsMade, IsPlayed}
 use Rattle.world_core.specs.OneLink.{Stage}
 use Rattle.world_core.specs.Sockets.{IsWorld}
-use Rattle.world_core.specs.Agreement.{HasOffers, GoesOn, IsShaken, PostsFew}
+use Rattle.world_core.specs.Agreement.{HasOffers, GoesOn, IsShaken, PostsFew, GivesItems}
 use Rattle.world_core.proofs.PlayedWorlds.{goes, played}
 use Rattle.world_core.proofs.NewOffers.{HasSocketAt, asked-offers}
 use Rattle.world_core.proofs.Shaken.{Choice, only-link, offer-link, offer-answer, kept-by}
 use Rattle.world_core.proofs.Tokens.{AreCounted, none-counted, counted-step}
 use Rattle.world_core.proofs.Groups.{no-group-ends}
 use Rattle.world_core.proofs.Rising.{comes-named, comes-offered, is-calm}
+use Rattle.world_core.specs.Due.{PostsDue}
+use Rattle.world_core.proofs.Due.{posts-due}
 use Rattle.world_core.proofs.OneSender.{posts-few}
+use Rattle.world_core.proofs.Agreed.{draft-items}
+use Rattle.world_core.proofs.EntryItems.{items-are, below-is}
+use Rattle.world_core.proofs.Ways.{way}
+use Rattle.pipe_model.specs.Connections.{deeds}
+use Rattle.std.proofs.Common.{◌++◌, ap}
 
 -- where a socket stands in a world
 at-socket : (setup : Setup) (stage : Stage) (past : List Entry) → IsWorld setup stage past → (s : ℕ) → HasSocketAt setup s past
@@ -68,3 +75,29 @@ module _ (setup : Setup) (one : IsOneLink setup) (payload : List ℕ) where
       let v = goes setup one payload w.stage p.0 e past p.1 world in
       let offers = has-offers past p.0 p.3 in
       posts-few setup payload e past p.0 p.0 p.1 p.3 offers (only-link setup w.stage past world.link) (goes-on e past p.0 p.1 w.stage v.stage world v.world offers) (shaken past p.0 p.3) (is-calm setup w.stage v.stage e past world v.world)
+
+  -- what the entry gives
+  pub gives-items : (e : Entry) (past : List Entry) (n : ℕ) (p : IsPlayed setup payload (e ∷ past) n) → GivesItems setup payload p.0 e past
+  gives-items e past n p =
+      let w = played setup one payload past p.0 p.3 in
+      let world = w.world in
+      let v = goes setup one payload w.stage p.0 e past p.1 world in
+      let offers = has-offers past p.0 p.3 in
+      let only = only-link setup w.stage past world.link in
+      let go = goes-on e past p.0 p.1 w.stage v.stage world v.world offers in
+      record {
+        of_draft = draft-items setup payload e past p.0 p.0 p.1 p.3 offers only go (shaken past p.0 p.3);
+        items_are = λ s. items-are payload 1 s e past ∙ ap (λ is. deeds payload s e.event e.reply past ++ is) (below-is 1 s e past go);
+        calm = is-calm setup w.stage v.stage e past world v.world;
+        goes_on = go;
+        way = λ x. way payload past e setup p.0 x only p.1;
+      }
+
+  -- what the pipes post is due
+  pub posts-what-is-due : (e : Entry) (past : List Entry) (n : ℕ) (p : IsPlayed setup payload (e ∷ past) n) → PostsDue setup payload (draft setup payload past p.0 e.event) e past
+  posts-what-is-due e past n p =
+      let w = played setup one payload past p.0 p.3 in
+      let world = w.world in
+      let v = goes setup one payload w.stage p.0 e past p.1 world in
+      let offers = has-offers past p.0 p.3 in
+      posts-due setup payload e past p.0 p.0 p.1 p.3 offers (only-link setup w.stage past world.link) (goes-on e past p.0 p.1 w.stage v.stage world v.world offers) (shaken past p.0 p.3) (is-calm setup w.stage v.stage e past world v.world)

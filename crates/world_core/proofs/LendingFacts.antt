@@ -41,7 +41,7 @@ pub each-two : (P Q R : Lending → Type 0) → ((l : Lending) → P l → Q l �
 each-two P Q R f [] a b = tt
 each-two P Q R f (l ∷ ls) a b = (f l a.0 b.0, each-two P Q R f ls a.1 b.1)
 
-each-append : (P : Lending → Type 0) (ls ms : List Lending) → EachLending P ls → EachLending P ms → EachLending P (ls ++ ms)
+pub each-append : (P : Lending → Type 0) (ls ms : List Lending) → EachLending P ls → EachLending P ms → EachLending P (ls ++ ms)
 each-append P [] ms a b = b
 each-append P (l ∷ ls) ms a b = (a.0, each-append P ls ms a.1 b)
 
@@ -192,7 +192,7 @@ places-filter f (l ∷ ls) h = by_test (f l) (places-filter f ls h.1)
     by_test true r = (each-filter (λ m. same_place l.place m.place ≡ false) f ls h.0, r)
     by_test false r = r
 
-free-apart : (p : Place) (ls : List Lending) → is_free (lent_places ls) p ≡ true → EachLending (λ m. same_place p m.place ≡ false) ls
+pub free-apart : (p : Place) (ls : List Lending) → is_free (lent_places ls) p ≡ true → EachLending (λ m. same_place p m.place ≡ false) ls
 free-apart p [] e = tt
 free-apart p (l ∷ ls) e = by_test (same_place p l.place) refl e (free-apart p ls)
   where
@@ -262,7 +262,7 @@ below n (l ∷ ls) a q h = by_test (q == l.s) refl h (below n ls a.1 q)
     by_test true e g rest = let same = eqb-true q l.s e in let low = a.0 in omega (arith, same, low)
     by_test false e g rest = rest g
 
-at-most : (n : ℕ) (ls : List Lending) → HaveSockets ls → EachLending (λ l. l.s < n) ls → length ls ≤ n
+pub at-most : (n : ℕ) (ls : List Lending) → HaveSockets ls → EachLending (λ l. l.s < n) ls → length ls ≤ n
 at-most n ls h a =
     let le = length-le_from_distinct_below (map (λ l. l.s) ls) n (distinct ls h) (below n ls a) in
     let same : length (map (λ l. l.s) ls) ≡ length ls = length-map ls (λ l. l.s) in

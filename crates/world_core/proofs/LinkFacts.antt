@@ -19,9 +19,10 @@ use Rattle.pipe_model.specs.Keys.{Keys, book_of, last_bound}
 use Rattle.pipe_model.specs.declared.setup.Setup.{Setup}
 use Rattle.world_core.specs.Played.{IsOneLink, IsPlayed}
 use Rattle.world_core.specs.Sockets.{AwaitsLink, Confirmed, Fallen, FirstAccepted, FirstConfirmed, FirstUp, FirstUpAtA, HasSocket, IsOffer, IsWorld, Proposed, Refused, Socket, Unopened, Up, first_step, is_first, is_unoffered, offered_at, on_link, suits, untaken_at, up_at}
-use Rattle.std.specs.Prelude.{Bool, List, None, Option, Some, [], false, filter_map, if◌then◌else◌, is_some, true, ℕ, ◌==◌, ◌||◌, ◌∷◌, ◌⊎◌}
-use Rattle.pipe_model.specs.Fabric.{has_ended, loses_group_with, peer}
-use Rattle.world_core.specs.OneLink.{Asking, Begun, LiveAtA, LiveAtBoth, Made, NoLink, Stage, book_at, fabric_at, keys_at, the_key, the_keys, the_link}
+use Rattle.std.specs.Prelude.{Bool, List, None, Option, Some, [], false, filter_map, if◌then◌else◌, is_some, true, ℕ, ◌==◌, ◌||◌, ◌∷◌, ◌⊎◌, ◌≤◌}
+use Rattle.pipe_model.specs.Fabric.{has_ended, loses_group_with, peer, Fabric, group_of}
+use Rattle.world_core.specs.OneLink.{Asking, Begun, LiveAtA, LiveAtBoth, Made, NoLink, Stage, book_at, fabric_at, keys_at, the_key, the_keys, the_link, IsAtStage, groups_at}
+use Rattle.pipe_model.specs.Posts.{groups_begun}
 
 -- the first of two tests
 then-first : (b : Bool) (u v : Bool) → (if b then u else v) ≡ true → v ≡ false → u ≡ true
@@ -269,3 +270,25 @@ none-waits-at setup x k (in-later-both o p f) = ap (λ j. untaken_at setup j (ot
 
 pub none-waits-for-up : (setup : Setup) (stage : Stage) (past : List Entry) → IsWorld setup stage past → (x : Side) (s : ℕ) → is_up x s past ≡ true → untaken (other x) s past ≡ []
 none-waits-for-up setup stage past w x s up = let h = w.sockets s in let at = h.stands in at.messages (other x) ∙ none-waits-at setup x h.at (up-as x h.at (sym (at.up x) ∙ up))
+
+-- groups are few
+groups-few : (stage : Stage) → groups_at stage ≤ 1
+groups-few NoLink = omega arith
+groups-few (Begun t) = omega arith
+groups-few (Made t) = omega arith
+groups-few (Asking t qp) = omega arith
+groups-few (LiveAtA t qp) = omega arith
+groups-few (LiveAtBoth t) = omega arith
+
+pub few-groups : (setup : Setup) (stage : Stage) (past : List Entry) → IsAtStage setup stage past → groups_begun past ≤ 1
+few-groups setup stage past at = let few = groups-few stage in let same = at.groups in omega (arith, few, same)
+
+pub few-at : (setup : Setup) (stage : Stage) (past : List Entry) → IsAtStage setup stage past → (x : Side) → group_of x past ≤ 1
+few-at setup stage past at x = by_group (group-is stage x)
+  where
+    same : group_of x past ≡ (peer x (fabric_at stage)).group
+    same = ap (λ (f : Fabric). (peer x f).group) at.fabric_is
+
+    by_group : ((peer x (fabric_at stage)).group ≡ 0) ⊎ ((peer x (fabric_at stage)).group ≡ 1) → group_of x past ≤ 1
+    by_group (inl z) = let zero_now : group_of x past ≡ 0 = same ∙ z in omega arith
+    by_group (inr i) = let one_now : group_of x past ≡ 1 = same ∙ i in omega arith

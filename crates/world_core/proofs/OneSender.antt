@@ -78,14 +78,14 @@ none-rests y ds e = subst (λ is. EachItem (rests y) is) (sym e) tt
 
 module _ (setup : Setup) (payload : List ℕ) (e : Entry) (past : List Entry) (before n : ℕ) (made : IsMade setup payload past before e) (played : IsPlayed setup payload past n)
     (offers : HasOffers setup past) (only : IsOnlyLink past) (go : GoesOn e past) (shaken : IsShaken setup past) (calm : (x : Side) → IsCalm x e past) where
-  abbrev D : Entry
+  abbrev pub D : Entry
   D = draft setup payload past before e.event
 
-  abbrev Deeds : ℕ → List Item
+  abbrev pub Deeds : ℕ → List Item
   Deeds t = deeds payload t e.event e.reply past
 
   -- every end but one rests
-  record Single : Type 0 where
+  pub record Single : Type 0 where
     pub s : ℕ
     pub x : Side
     pub rest : (y : Side) (t : ℕ) → ((t == s) && same_side y x) ≡ false → EachItem (rests y) (Deeds t)
@@ -174,14 +174,14 @@ module _ (setup : Setup) (payload : List ℕ) (e : Entry) (past : List Entry) (b
   single-by (Complete slot d) v b = of-completion d (λ t. ap (λ event. deeds payload t event e.reply past) v) (way payload past e setup before d only made)
   single-by _ v b = absurd b
 
-  single : Single
+  pub single : Single
   single = single-by e.event refl made.built
 
   -- what the pipes of the sockets post
   end-none : (y : Side) (t : ℕ) → given setup payload D past y t ≡ [] → end_posts setup payload y t D past ≡ []
   end-none y t f = ap (λ ms. flat_map (sent_posts (element_size setup) y (offered (other y) t past) (D ∷ past)) ms) f
 
-  rest-posts : (y : Side) (t : ℕ) → EachItem (rests y) (Deeds t) → end_posts setup payload y t D past ≡ []
+  pub rest-posts : (y : Side) (t : ℕ) → EachItem (rests y) (Deeds t) → end_posts setup payload y t D past ≡ []
   rest-posts y t r = end-none y t (given-none setup payload e past before n made played offers only go shaken calm y t r)
 
   both-none : (ps qs : List Post) → ps ≡ [] → qs ≡ [] → ps ++ qs ≡ []
@@ -206,18 +206,18 @@ module _ (setup : Setup) (payload : List ℕ) (e : Entry) (past : List Entry) (b
   one-end A s r = ap (λ ps. end_posts setup payload A s D past ++ ps) (rest-posts B s r) ∙ append-nil (end_posts setup payload A s D past)
   one-end B s r = ap (λ ps. ps ++ end_posts setup payload B s D past) (rest-posts A s r)
 
-  posts-of : (q : Single) → pipe_posts setup payload q.s D past ≡ end_posts setup payload q.x q.s D past
+  pub posts-of : (q : Single) → pipe_posts setup payload q.s D past ≡ end_posts setup payload q.x q.s D past
   posts-of q = one-end q.x q.s (q.rest (other q.x) q.s (apart q.x q.s))
 
   -- where the one end was not offered, nothing is posted at all
-  nowhere : (q : Single) → end_posts setup payload q.x q.s D past ≡ [] → connection_posts setup payload D past ≡ []
+  pub nowhere : (q : Single) → end_posts setup payload q.x q.s D past ≡ [] → connection_posts setup payload D past ≡ []
   nowhere q f = flat-none (λ t. pipe_posts setup payload t D past) (offered_sockets setup past) (λ t. by t (t == q.s) refl)
     where
       by : (t : ℕ) (b : Bool) → (t == q.s) ≡ b → pipe_posts setup payload t D past ≡ []
       by t true g = ap (λ k. pipe_posts setup payload k D past) (eqb-true t q.s g) ∙ posts-of q ∙ f
       by t false g = none-of q t g
 
-  all-of : (q : Single) (o : Offered) → offered (other q.x) q.s past ≡ Some o → connection_posts setup payload D past ≡ end_posts setup payload q.x q.s D past
+  pub all-of : (q : Single) (o : Offered) → offered (other q.x) q.s past ≡ Some o → connection_posts setup payload D past ≡ end_posts setup payload q.x q.s D past
   all-of q o f =
       met (λ t. pipe_posts setup payload t D past) (is_offered past) q.s (none-of q) 1 setup.sockets (ap (λ g. not (g == 0)) (grouped setup past offers (other q.x) q.s o f)) (omega arith) (omega arith) (omega (arith, offers.known (other q.x) q.s o f)) ∙ posts-of q
 

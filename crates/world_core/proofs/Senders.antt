@@ -69,7 +69,7 @@ rests x (Calls y call) = not (same_side x y)
 rests x (Completes y) = not (same_side x y)
 rests x _ = true
 
-apply-sent : (size : ℕ) (x : Side) (item : Item) (p : Pipe) → keeps_open item ≡ true → (half x (apply size item p)).sent ≡ (half x p).sent
+pub apply-sent : (size : ℕ) (x : Side) (item : Item) (p : Pipe) → keeps_open item ≡ true → (half x (apply size item p)).sent ≡ (half x p).sent
 apply-sent size A (Fate A link phase) p k = let s = same-fate link phase p.a in s.2
 apply-sent size A (Fate B link phase) p k = refl
 apply-sent size B (Fate A link phase) p k = refl

@@ -1,6 +1,6 @@
 -- What the pipes take from the handshake: the one link, the offers and the ends that come up.
 -- A reader learns here which facts of links and sockets the agreement of wires and pipes rests on, and what it says.
-use Rattle.std.specs.Prelude.{◌≡◌, ◌⊎◌, ◌<◌, ◌≤◌, ◌==◌, length, ℕ, true, false, if◌then◌else◌, nat_lt, List, [], ◌∷◌, Option, Some, None}
+use Rattle.std.specs.Prelude.{◌≡◌, ◌⊎◌, ◌<◌, ◌≤◌, ◌==◌, length, ℕ, true, false, if◌then◌else◌, nat_lt, List, [], ◌∷◌, Option, Some, None, ◌++◌, reverse}
 use Rattle.smc_num.specs.declared.Side.{Side}
 use Rattle.smc_num.specs.declared.Side.TheVariants.{A, B}
 use Rattle.smc_num.specs.declared.LinkId.{LinkId}
@@ -10,18 +10,22 @@ use Rattle.cdc_wire.specs.declared.CdcMessage.{CdcMessage}
 use Rattle.pipe_model.specs.declared.setup.Setup.{Setup}
 use Rattle.pipe_model.specs.declared.sent.Sent.{Sent}
 use Rattle.pipe_model.specs.Snapshot.{spelled}
+use Rattle.pipe_model.specs.declared.post.Post.{Post}
+use Rattle.pipe_model.specs.declared.post.PostRef.{PostRef}
 use Rattle.pipe_model.specs.declared.entry.Entry.{Entry}
 use Rattle.pipe_model.specs.Words.{element_size}
-use Rattle.pipe_model.specs.History.{Offered, offered}
+use Rattle.pipe_model.specs.History.{Offered, offered, post_at, is_cdc}
 use Rattle.pipe_model.specs.Fabric.{latest, loses_group_with}
 use Rattle.pipe_model.specs.Wires.{is_dead, unlanded, uncompleted}
 use Rattle.pipe_model.specs.Pipe.{Terms, Item, Fate, half, is_near_part, posts_of}
 use Rattle.pipe_model.specs.Ends.{Half, is_over, to_land, to_complete}
 use Rattle.pipe_model.specs.Parts.{IsFeasible, has_swallow}
-use Rattle.pipe_model.specs.Connections.{comes_up, is_up, fates, items, part, group_on}
-use Rattle.pipe_model.specs.Lending.{terms_of, pipe_of}
+use Rattle.pipe_model.specs.Connections.{comes_up, is_up, ups, fates, deeds, if_own, items, part, group_on}
+use Rattle.pipe_model.specs.Lending.{terms_of, pipe_of, lends_by, record_of}
 use Rattle.pipe_model.specs.Posts.{sent_posts, connection_posts}
 use Rattle.world_core.specs.OneLink.{the_link}
+use Rattle.pipe_model.specs.Lawful.{draft}
+use Rattle.world_core.specs.WireSteps.{Way}
 use Rattle.world_core.specs.Wired.{cdcs, IsCarried, IsOpenEnd, IsOpenSent, IsOnLink}
 
 -- the latest link of the slot: none, or the one link, which is not dead
@@ -115,3 +119,23 @@ pub record PostsOne (setup : Setup) (payload : List ℕ) (e : Entry) (past : Lis
 -- what all pipes post with an entry: nothing, or that
 abbrev pub PostsFew : Setup → List ℕ → Entry → List Entry → Type 0
 PostsFew setup payload e past = (connection_posts setup payload e past ≡ []) ⊎ PostsOne setup payload e past
+
+-- what a played entry gives the connection of a socket: its deeds, above the establishments, above the fates of the one link, and no
+-- end of a group; the draft of its posts gives the same; an end comes up on the one link where its peer has offered; and of each
+-- side a post lands, completes, or neither
+pub record GivesItems (setup : Setup) (payload : List ℕ) (before : ℕ) (e : Entry) (past : List Entry) : Type 0 where
+  pub of_draft : (group s : ℕ) → items payload group s (draft setup payload past before e.event) past ≡ items payload group s e past
+  pub items_are : (s : ℕ) → items payload 1 s e past ≡ deeds payload s e.event e.reply past ++ (reverse (ups A s e past ++ ups B s e past) ++ reverse (fates A 1 e past ++ fates B 1 e past))
+  pub calm : (x : Side) → IsCalm x e past
+  pub goes_on : GoesOn e past
+  pub way : (x : Side) → Way payload the_link x e past
+
+-- that a landing or completion of a post at a place is a connection's own just where the post is a CDC message under the token that
+-- the peer of its end offered
+abbrev pub IsOwnUnderToken : Item → Side → ℕ → PostRef → Offered → Post → List Entry → Type 0
+IsOwnUnderToken item x s at o post past = offered (other x) s past ≡ Some o → post_at at past ≡ Some post → if_own item x s (Some at) past ≡ (if is_cdc x o.offer.token post then item ∷ [] else [])
+
+-- that the token of a CDC message which lands next names the record of the end that its sender's peer offered, so that it is not dropped
+pub record NamesRecord (setup : Setup) (payload : List ℕ) (x : Side) (past : List Entry) (m : CdcMessage) : Type 0 where
+  pub spelling : Spelling setup payload x past m next_to_land
+  pub named : record_of setup payload (other x) m.token past ≡ Some (lends_by spelling.s the_link spelling.offer.offer)

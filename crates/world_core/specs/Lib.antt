@@ -1,7 +1,11 @@
 pub mod Agreement
 pub mod Connection
-pub mod Managers
+pub mod Directed
+pub mod Due
+pub mod Heard
+pub mod Lacking
 pub mod Lent
+pub mod Managers
 pub mod OneLink
 pub mod Played
 pub mod Room

@@ -1,9 +1,10 @@
 -- How much room the one link needs: how many posts of a side can be under way on it.
 -- A reader learns here how ends that are up are counted, and what they bound.
-use Rattle.std.specs.Prelude.{◌≡◌, ℕ, zero, suc, ◌+◌, ◌*◌, ◌≤◌, Bool, true, false, if◌then◌else◌, List, [], ◌∷◌, ◌++◌, length}
+use Rattle.std.specs.Prelude.{ℕ, zero, suc, ◌+◌, ◌*◌, ◌≤◌, if◌then◌else◌, List, ◌++◌, length}
 use Rattle.smc_num.specs.declared.Side.{Side}
 use Rattle.pipe_model.specs.declared.setup.Setup.{Setup}
 use Rattle.pipe_model.specs.declared.entry.Entry.{Entry}
+use Rattle.pipe_model.specs.Words.{elements_of}
 use Rattle.pipe_model.specs.Wires.{unlanded, uncompleted}
 use Rattle.pipe_model.specs.Connections.{is_up}
 use Rattle.world_core.specs.OneLink.{the_link}
@@ -20,3 +21,8 @@ ups_below x past n = sum_below (λ s. if is_up x s past then 1 else 0) n
 -- that each end that is up has as many snapshots of three posts under way as it may, and no more, beside one LLC message
 abbrev pub HasRoom : Setup → Side → List Entry → Type 0
 HasRoom setup x past = length (unlanded the_link x past ++ uncompleted the_link x past) ≤ 3 * (setup.depth * ups_below x past setup.sockets) + 1
+
+-- that no more ends of a side are up than it has elements, so that the link carries no more than this
+pub record FitsElements (setup : Setup) (x : Side) (past : List Entry) : Type 0 where
+  pub ups : ups_below x past setup.sockets ≤ elements_of setup x
+  pub posts : length (unlanded the_link x past ++ uncompleted the_link x past) ≤ 3 * (setup.depth * elements_of setup x) + 1

@@ -10,15 +10,17 @@ ghost use Rattle.clc_wire.specs.declared.offer.Offer.{Offer};
 ghost use Rattle.pipe_model.specs.declared.setup.Setup.{Setup};
 ghost use Rattle.pipe_model.specs.declared.entry.Entry.{Entry};
 ghost use Rattle.pipe_model.specs.History.{Offered, offered};
-ghost use Rattle.pipe_model.specs.Fabric.{has_ended};
-ghost use Rattle.pipe_model.specs.Wires.{is_dead};
-ghost use Rattle.pipe_model.specs.Connections.{is_up, end_state};
-ghost use Rattle.pipe_model.specs.Lending.{lendings, lends_by};
+ghost use Rattle.pipe_model.specs.Fabric.{has_ended, group_of, path_up};
+ghost use Rattle.pipe_model.specs.Wires.{is_cut, is_dead};
+ghost use Rattle.pipe_model.specs.Connections.{is_up, end_state, part};
+ghost use Rattle.pipe_model.specs.Lending.{Lending, lendings, lends_by, lent, record_of};
 ghost use Rattle.pipe_model.specs.Keys.{book_of, last_bound};
-ghost use Rattle.pipe_model.specs.Fallback.{untaken};
+ghost use Rattle.pipe_model.specs.Fallback.{is_fallen, untaken};
+ghost use Rattle.pipe_model.specs.Pipe.{Terms, half, pipe};
+ghost use Rattle.pipe_model.specs.Posts.{end_posts, groups_begun};
 ghost use Rattle.world_core.specs.Played.{IsOneLink, IsPlayed};
-ghost use Rattle.world_core.specs.OneLink.{the_link, the_key, Stage, IsAtStage, is_made};
-ghost use Rattle.world_core.specs.Sockets.{HasWorld, IsOffer, on_link, Socket, StandsAt, end_at};
+ghost use Rattle.world_core.specs.OneLink.{the_link, the_key, Stage, IsAtStage, is_made, is_of_first};
+ghost use Rattle.world_core.specs.Sockets.{HasWorld, IsOffer, IsWorld, on_link, Socket, StandsAt, end_at};
 ghost use Rattle.world_core.specs.Lent.{AreLendings};
 
 /// The one link is at one step of its making, nothing is cut, and each socket is at one step of its
@@ -26,6 +28,19 @@ ghost use Rattle.world_core.specs.Lent.{AreLendings};
 pub fn the_link_and_the_sockets_are_somewhere()
     ensures { (setup : Setup) (payload : List ℕ) (past : List Entry) (n : ℕ) → IsOneLink setup
         → IsPlayed setup payload past n → HasWorld setup past }
+{}
+
+/// The path is up and the link was never cut; at most one group was begun, and each side is in it or
+/// in none.
+pub fn nothing_is_cut()
+    ensures path { (setup : Setup) (payload : List ℕ) (past : List Entry) (n : ℕ) → IsOneLink setup
+        → IsPlayed setup payload past n → path_up 1 past ≡ true }
+    ensures link { (setup : Setup) (payload : List ℕ) (past : List Entry) (n : ℕ) → IsOneLink setup
+        → IsPlayed setup payload past n → is_cut the_link past ≡ false }
+    ensures begun { (setup : Setup) (payload : List ℕ) (past : List Entry) (n : ℕ) → IsOneLink setup
+        → IsPlayed setup payload past n → groups_begun past ≤ 1 }
+    ensures group { (setup : Setup) (payload : List ℕ) (past : List Entry) (n : ℕ) (x : Peer) → IsOneLink setup
+        → IsPlayed setup payload past n → group_of x past ≤ 1 }
 {}
 
 /// No group ends.
@@ -44,6 +59,13 @@ pub fn the_link_is_not_dead()
 pub fn ends_are_at_the_step_of_their_socket()
     ensures { (setup : Setup) (k : Socket) (s : ℕ) (past : List Entry) (x : Peer) → StandsAt setup k s past
         → end_state x s past ≡ end_at k x }
+{}
+
+/// Each offer is on the one link, of an element of the side's one RMB under its one key, and marked as
+/// first just where its socket is that of first contact.
+pub fn offers_are_on_the_one_link()
+    ensures { (setup : Setup) (stage : Stage) (past : List Entry) (x : Peer) (s : ℕ) (o : Offered) → IsWorld setup stage past
+        → offered x s past ≡ Some o → (o.link ≡ the_link) × IsOffer setup x (is_of_first stage s) o.offer }
 {}
 
 /// Where an end is up, both sides have offered an element on the one link.
@@ -94,4 +116,31 @@ pub fn tokens_tell_sockets_apart()
     ensures { (setup : Setup) (payload : List ℕ) (past : List Entry) (n : ℕ) (x : Peer) (s r : ℕ) (o q : Offered)
         → IsOneLink setup → IsPlayed setup payload past n → offered x s past ≡ Some o → offered x r past ≡ Some q
         → o.offer.token ≡ q.offer.token → s ≡ r }
+{}
+
+/// A token names a lending that stands of the socket for which it was offered.
+pub fn a_token_names_an_offer()
+    ensures { (setup : Setup) (payload : List ℕ) (past : List Entry) (n : ℕ) (x : Peer) (token : ℕ) (l : Lending)
+        → IsOneLink setup → IsPlayed setup payload past n → record_of setup payload x token past ≡ Some l
+        → (o : Offer) × ((offered x l.s past ≡ on_link o) × ((l ≡ lends_by l.s the_link o) × (o.token ≡ token))) }
+{}
+
+/// An element that was offered stays lent, and its token names it, until its end falls back.
+pub fn an_offered_element_stays_lent()
+    ensures { (setup : Setup) (payload : List ℕ) (past : List Entry) (n : ℕ) (x : Peer) (s : ℕ) (o : Offer)
+        → IsOneLink setup → IsPlayed setup payload past n → offered x s past ≡ on_link o → is_fallen x s past ≡ false
+        → (find (λ l. l.s == s) (lent setup payload x past) ≡ Some (lends_by s the_link o))
+        × (record_of setup payload x o.token past ≡ Some (lends_by s the_link o)) }
+{}
+
+/// After every list of entries an end of a private pipe is up just where the end in the history is.
+pub fn an_end_of_a_pipe_is_up_where_the_end_is()
+    ensures { (t : Terms) (x : Peer) (payload : List ℕ) (group s : ℕ) (past : List Entry)
+        → (half x (pipe t (part payload group s past))).up ≡ is_up x s past }
+{}
+
+/// An end that is not up after an entry posts nothing with it.
+pub fn an_end_that_is_not_up_posts_nothing()
+    ensures { (setup : Setup) (payload : List ℕ) (x : Peer) (s : ℕ) (e : Entry) (past : List Entry)
+        → is_up x s (e ∷ past) ≡ false → end_posts setup payload x s e past ≡ [] }
 {}

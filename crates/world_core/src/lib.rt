@@ -10,20 +10,30 @@
 #![tactic(auto)]
 
 mod connection;
-mod wire_laws;
+mod lawful_laws;
 mod laws;
+mod wire_laws;
 mod world;
 
+pub use lawful_laws::{
+    a_lack_is_named_only_where_it_holds, a_played_history_is_lawful, each_write_lands_home,
+    each_write_under_way_is_directed, no_element_is_lent_again_too_early, no_end_is_reset,
+    no_key_is_bound_again_too_early, what_is_heard_are_the_bytes_of_the_answers,
+};
 pub use laws::{
-    a_lending_is_where_an_offer_is, an_end_that_is_up_has_offers, an_end_that_is_up_knows_the_key,
+    a_lending_is_where_an_offer_is, a_token_names_an_offer,
+    an_end_of_a_pipe_is_up_where_the_end_is, an_end_that_is_not_up_posts_nothing,
+    an_end_that_is_up_has_offers, an_end_that_is_up_knows_the_key, an_offered_element_stays_lent,
     ends_are_at_the_step_of_their_socket, lendings_are_apart, lendings_are_few, no_group_ends,
-    no_message_waits_for_an_end_that_is_up, the_link_and_the_sockets_are_somewhere,
-    the_link_is_not_dead, tokens_tell_sockets_apart,
+    no_message_waits_for_an_end_that_is_up, nothing_is_cut, offers_are_on_the_one_link,
+    the_link_and_the_sockets_are_somewhere, the_link_is_not_dead, tokens_tell_sockets_apart,
 };
 pub use pipe_model::StepFault;
 pub use wire_laws::{
-    no_end_closes, offers_differ_in_their_tokens, posts_on_a_wire_stand_in_the_history,
-    the_pipes_post_one_batch_at_most, what_completes_is_next_to_complete,
-    what_lands_is_next_to_land, wires_and_pipes_agree,
+    an_entry_gives_deeds_and_fates, no_end_closes, no_lending_was_ever_over, no_message_is_dropped,
+    offers_differ_in_their_tokens, own_messages_are_those_under_the_token,
+    posts_on_a_wire_stand_in_the_history, the_link_fits_the_elements, the_link_has_room,
+    the_pipes_post_one_batch_at_most, the_pipes_post_what_is_due,
+    what_completes_is_next_to_complete, what_lands_is_next_to_land, wires_and_pipes_agree,
 };
 pub use world::{NewFault, World};

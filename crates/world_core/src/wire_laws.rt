@@ -8,13 +8,20 @@ ghost use Rattle.cdc_wire.specs.declared.CdcMessage.{CdcMessage as Message};
 ghost use Rattle.pipe_model.specs.declared.setup.Setup.{Setup as Settings};
 ghost use Rattle.pipe_model.specs.declared.post.Placed.{Placed as InPlace};
 ghost use Rattle.pipe_model.specs.declared.post.Post.TheVariants.{Cdc};
+ghost use Rattle.pipe_model.specs.declared.post.Post.{Post as Posted};
+ghost use Rattle.pipe_model.specs.declared.post.PostRef.{PostRef as Place};
 ghost use Rattle.pipe_model.specs.declared.entry.Entry.{Entry as Line};
+ghost use Rattle.pipe_model.specs.History.{Offered};
+ghost use Rattle.pipe_model.specs.Pipe.{Item};
 ghost use Rattle.pipe_model.specs.Wires.{unlanded, uncompleted};
 ghost use Rattle.pipe_model.specs.Lawful.{draft};
 ghost use Rattle.world_core.specs.Played.{IsOneLink, IsPlayed};
 ghost use Rattle.world_core.specs.OneLink.{the_link};
+ghost use Rattle.world_core.specs.Lent.{WasNeverOver};
+ghost use Rattle.world_core.specs.Due.{PostsDue};
+ghost use Rattle.world_core.specs.Room.{HasRoom, FitsElements};
 ghost use Rattle.world_core.specs.WireSteps.{IsPlaced, EachPlaced};
-ghost use Rattle.world_core.specs.Agreement.{HasOffers, Agree, HasPipe, Spelling, PostsFew, next_to_land, next_to_complete};
+ghost use Rattle.world_core.specs.Agreement.{HasOffers, Agree, HasPipe, Spelling, PostsFew, GivesItems, IsOwnUnderToken, NamesRecord, next_to_land, next_to_complete};
 
 /// The link carries of each end just what its pipe has under way, and nothing else under any token;
 /// each connection's part can be, and nothing in it is swallowed.
@@ -62,4 +69,52 @@ pub fn the_pipes_post_one_batch_at_most()
 pub fn offers_differ_in_their_tokens()
     ensures { (setup : Settings) → IsOneLink setup → (payload : List ℕ) (past : List Line) (n : ℕ)
         → IsPlayed setup payload past n → HasOffers setup past }
+{}
+
+/// An entry gives a connection its deeds, above establishments and the fates of the one link; and the
+/// draft of its posts gives the same.
+pub fn an_entry_gives_deeds_and_fates()
+    ensures { (setup : Settings) → IsOneLink setup → (payload : List ℕ) (e : Line) (past : List Line) (n : ℕ)
+        → (p : IsPlayed setup payload (e ∷ past) n) → GivesItems setup payload p.0 e past }
+{}
+
+/// A landing or a completion is a connection's own just where its post is a CDC message under the
+/// token that the peer of its end offered.
+pub fn own_messages_are_those_under_the_token()
+    ensures { (item : Item) (x : Peer) (s : ℕ) (at : Place) (past : List Line) (o : Offered) (post : Posted)
+        → IsOwnUnderToken item x s at o post past }
+{}
+
+/// On the link no more posts of a side are under way than three for each snapshot that may be in
+/// flight, and one LLC message.
+pub fn the_link_has_room()
+    ensures { (setup : Settings) → IsOneLink setup → (payload : List ℕ) (x : Peer) (past : List Line) (n : ℕ)
+        → IsPlayed setup payload past n → HasRoom setup x past }
+{}
+
+/// No more ends of a side are up than it has elements, so that the link carries no more posts of it
+/// than three for each snapshot of each element, and one LLC message.
+pub fn the_link_fits_the_elements()
+    ensures { (setup : Settings) → IsOneLink setup → (payload : List ℕ) (x : Peer) (past : List Line) (n : ℕ)
+        → IsPlayed setup payload past n → FitsElements setup x past }
+{}
+
+/// No end of a lending was ever over, so that its element stays lent.
+pub fn no_lending_was_ever_over()
+    ensures { (setup : Settings) → IsOneLink setup → (payload : List ℕ) (past : List Line) (n : ℕ)
+        → IsPlayed setup payload past n → (x : Peer) → WasNeverOver setup payload x past }
+{}
+
+/// The token of the CDC message that lands next names a record which stands: it is not dropped.
+pub fn no_message_is_dropped()
+    ensures { (setup : Settings) → IsOneLink setup → (payload : List ℕ) (past : List Line) (n : ℕ)
+        → IsPlayed setup payload past n → (x : Peer) (c : InPlace) (rest : List InPlace) (from : Peer) (l : Link) (m : Message)
+        → unlanded the_link x past ≡ c ∷ rest → c.post ≡ Cdc from l m → NamesRecord setup payload x past m }
+{}
+
+/// The pipes post what is due to the one end that an entry makes call or completes a message of, and
+/// nothing where it does neither.
+pub fn the_pipes_post_what_is_due()
+    ensures { (setup : Settings) → IsOneLink setup → (payload : List ℕ) (e : Line) (past : List Line) (n : ℕ)
+        → (p : IsPlayed setup payload (e ∷ past) n) → PostsDue setup payload (draft setup payload past p.0 e.event) e past }
 {}

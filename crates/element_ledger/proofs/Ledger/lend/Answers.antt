@@ -13,7 +13,7 @@ next_lending-element-requires c =
     free_one P c.self.inside.rows.items c.in_ok-first_free.field-0 all has
 
 pub invariant_of-self : goal.invariant_of-self
-invariant_of-self c = ap (λ rs. map (λ r. r.place) rs) c.lend_at.ensures ∙ lent_places_kept _ c.args.conn c.self.inside.rows.items ∙ c.self.invariant
+invariant_of-self c = (ap (λ rs. map (λ r. r.place) rs) c.lend_at.ensures ∙ lent_places_kept _ c.args.conn c.self.inside.rows.items ∙ c.self.invariant.0, c.self.invariant.1, c.self.invariant.2)
 
 pub returns-clause-lending : goal.returns-clause-lending
 returns-clause-lending c =

@@ -6,7 +6,7 @@ use Rattle.element_ledger.proofs.Changes.{changed_places, lending_of-changed}
 use Rattle.element_ledger.proofs.Ledger.own_gone.Goals as goal
 
 pub invariant_of-self : goal.invariant_of-self
-invariant_of-self c = ap (λ rs. map (λ r. r.place) rs) c.change_at.ensures ∙ changed_places (place_of c.args.e) OwnGone c.self.inside.rows.items ∙ c.self.invariant
+invariant_of-self c = (ap (λ rs. map (λ r. r.place) rs) c.change_at.ensures ∙ changed_places (place_of c.args.e) OwnGone c.self.inside.rows.items ∙ c.self.invariant.0, c.self.invariant.1, c.self.invariant.2)
 
 pub returns-clause-lending : goal.returns-clause-lending
 returns-clause-lending c =
