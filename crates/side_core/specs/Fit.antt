@@ -1,7 +1,7 @@
 -- What fits together in a manager.
 -- A reader learns here that an end has a connection exactly in the states in which an element is lent to it, and that each
 -- connection's element is its own.
-use Rattle.std.specs.Prelude.{◌≡◌, ◌≤◌, ℕ, ◌==◌, not, true, false, List, [], ◌∷◌, length, map, filter, All, Option, Some, None, IsSome, IfSome, Bool, ◌+◌}
+use Rattle.std.specs.Prelude.{◌≡◌, ◌≤◌, ◌<◌, ℕ, ◌==◌, not, true, false, List, [], ◌∷◌, length, map, filter, All, Option, Some, None, IsSome, IfSome, Bool, ◌+◌}
 use Rattle.smc_num.specs.Links.{Known, first_live}
 use Rattle.smc_num.specs.Places.{all_places, rmb_at}
 use Rattle.clc_wire.specs.declared.offer.Offer.{Offer}
@@ -76,6 +76,8 @@ pub record IsFit (m : Manager Half) : Type 0 where
   pub epochs : All (λ r. r.epoch ≤ m.records.tokens) m.desk.rows
   pub tokens : m.records.tokens ≤ length m.records.by_socket
   pub quiet : (m.desk.group == 0) ≡ true → m.desk.links.known ≡ []
+  pub room : (m.desk.group == 0) ≡ true → 0 < m.records.spare
+  pub unconfirmed : (m.desk.group == 0) ≡ true → m.desk.confirmed ≡ []
   pub confirmed : (m.desk.group == 0) ≡ false → m.desk.confirmed ≡ 1 ∷ []
   pub live : (m.desk.group == 0) ≡ false → is_first_contact m.desk.flow.link ≡ false → IsSome (first_live m.desk.links.known)
   pub suits : (s : ℕ) → Suits (state_at s m) (route_at s m.records)

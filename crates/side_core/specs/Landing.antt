@@ -1,6 +1,6 @@
 -- Messages of the peer that land, and a side's own that complete.
 -- A reader learns here which end takes a message, what a caller must see to then, and what is told where no end takes it.
-use Rattle.std.specs.Prelude.{◌≡◌, ℕ, ◌&&◌, Bool, true, false, List, [], ◌∷◌, Option, Some, None, ◌+◌}
+use Rattle.std.specs.Prelude.{◌≡◌, ℕ, ◌&&◌, ◌==◌, Bool, true, false, List, [], ◌∷◌, Option, Some, None, ◌+◌}
 use Rattle.smc_num.specs.declared.Side.{Side}
 use Rattle.smc_num.specs.declared.Side.TheVariants.{A, B}
 use Rattle.smc_num.specs.declared.LinkId.{LinkId}
@@ -26,6 +26,7 @@ use Rattle.side_core.specs.Records.{Connection, conn_at, half_at, holder, aimer}
 use Rattle.side_core.specs.Desk.{Desk, made_on}
 use Rattle.side_core.specs.Manager.{Manager, with_hand}
 use Rattle.side_core.specs.Acting.{IsSoundAt}
+use Rattle.side_core.specs.Comings.{MayArriveAt, ArrivesAt, MayCompleteAt, CompletesAt, MayGo}
 
 -- the end of a socket begins its handshake
 abbrev pub opens_at : {E : Type 0} → ℕ → Bool → Manager E → Manager E
@@ -48,6 +49,7 @@ opening_posts s d = opening_of d.side s d
 pub record CanMake (link : LinkId) (d : Desk) : Type 0 where
   pub slot : link.slot ≡ 1
   pub group : link.group ≡ d.group
+  pub begun : (d.group == 0) ≡ false
   pub none : is_standing (phase_at link.slot d.links.known) ≡ false
   pub next : link.incarnation ≡ made_on link.slot d + 1
 
@@ -65,45 +67,31 @@ dropped_by (Some s) token = None
 abbrev pub dropped : {E : Type 0} → ℕ → Manager E → Option ℕ
 dropped token m = dropped_by (holder token m.records) token
 
--- an end may take a message, and is not over
-abbrev pub IsTaker : CdcMessage → Snapshot → Option (Connection Kept) → Type 0
-IsTaker message plain None = ⊥
-IsTaker message plain (Some k) = MayLand k.end message plain × ((is_last k.end.course.fin && is_last k.end.course.taken) ≡ false)
-
 -- what a caller must see to where a message lands: the end that its token names may take it
-pub record MayLandAt (message : CdcMessage) (plain : Snapshot) (v : Manager Kept) : Type 0 where
-  pub taker : (s : ℕ) → holder message.token v.records ≡ Some s → IsTaker message plain (conn_at s v.records)
+pub record MayLandIn (message : CdcMessage) (plain : Snapshot) (v : Manager Kept) : Type 0 where
+  pub taker : (s : ℕ) → holder message.token v.records ≡ Some s → MayArriveAt message plain (conn_at s v.records)
   pub sound : (s : ℕ) → holder message.token v.records ≡ Some s → IsSoundAt v.records.terms.size (conn_at s v.records)
 
--- that a message is the spelling of one that was sent to a plain end, which may take it and is not over
-abbrev pub LandsOn : CdcMessage → Snapshot → Sent → Option (Connection Kept) → Option (Connection Half) → Type 0
-LandsOn message plain sent (Some k) (Some c) = Lands k.end message plain c.end sent × (is_over c.end ≡ false)
-LandsOn message plain sent _ _ = ⊥
-
--- that at the end of a socket, which its token names
-pub record LandsAt (s : ℕ) (message : CdcMessage) (plain : Snapshot) (sent : Sent) (v : Manager Kept) (m : Manager Half) : Type 0 where
+-- that a message is the spelling of one that was sent to the end of a socket, which its token names and which may take it
+pub record LandsIn (s : ℕ) (message : CdcMessage) (plain : Snapshot) (sent : Sent) (v : Manager Kept) (m : Manager Half) : Type 0 where
   pub held : holder message.token v.records ≡ Some s
-  pub lands : LandsOn message plain sent (conn_at s v.records) (conn_at s m.records)
+  pub lands : ArrivesAt message plain sent (conn_at s v.records) (conn_at s m.records)
 
--- a message may complete at an end
-abbrev pub IsSender : CdcMessage → Snapshot → Option (Connection Kept) → Type 0
-IsSender message plain None = ⊥
-IsSender message plain (Some k) = MayComplete k.end message plain
-
--- what a caller must see to where a message completes: it is the oldest of the end that its token is the peer's of
-pub record MayCompleteAt (message : CdcMessage) (plain : Snapshot) (v : Manager Kept) : Type 0 where
-  pub sender : (s : ℕ) → aimer message.token v.records ≡ Some s → IsSender message plain (conn_at s v.records)
+-- what a caller must see to where a message completes: it is the oldest of the end whose peer gave its token
+pub record MayCompleteIn (message : CdcMessage) (plain : Snapshot) (v : Manager Kept) : Type 0 where
+  pub sender : (s : ℕ) → aimer message.token v.records ≡ Some s → MayCompleteAt message plain (conn_at s v.records)
   pub sound : (s : ℕ) → aimer message.token v.records ≡ Some s → IsSoundAt v.records.terms.size (conn_at s v.records)
 
--- that a message is the oldest uncompleted one of a plain end
-abbrev pub CompletesOn : CdcMessage → Snapshot → Sent → Option (Connection Kept) → Option (Connection Half) → Type 0
-CompletesOn message plain sent (Some k) (Some c) = Completes k.end message plain c.end sent
-CompletesOn message plain sent _ _ = ⊥
-
--- that at the end of a socket, which its token is the peer's of
-pub record CompletesAt (s : ℕ) (message : CdcMessage) (plain : Snapshot) (sent : Sent) (v : Manager Kept) (m : Manager Half) : Type 0 where
+-- that a message is the oldest uncompleted one of the end of a socket, whose peer gave its token
+pub record CompletesIn (s : ℕ) (message : CdcMessage) (plain : Snapshot) (sent : Sent) (v : Manager Kept) (m : Manager Half) : Type 0 where
   pub aimed : aimer message.token v.records ≡ Some s
-  pub completes : CompletesOn message plain sent (conn_at s v.records) (conn_at s m.records)
+  pub completes : CompletesAt message plain sent (conn_at s v.records) (conn_at s m.records)
+
+-- what a caller must see to where the bytes of a write are asked for: the end whose peer gave the token keeps them
+pub record MayGoOut (token address len : ℕ) (v : Manager Kept) : Type 0 where
+  pub socket : ℕ
+  pub aimed : aimer token v.records ≡ Some socket
+  pub goes : MayGo v.records.terms.size (conn_at socket v.records) address len
 
 -- what a call of the end of a socket is told, where its peer has accepted these bytes
 abbrev pub told_at : ℕ → Call → List ℕ → Manager Half → Told

@@ -1,9 +1,13 @@
 pub mod Acting
+pub mod Comings
 pub mod Desk
 pub mod Fit
+pub mod Inside
 pub mod Landing
+pub mod Lends
 pub mod Manager
 pub mod Posting
 pub mod Records
 pub mod Setups
+pub mod Slots
 pub mod Taking

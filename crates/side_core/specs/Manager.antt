@@ -1,6 +1,6 @@
 -- The manager of one side: what it keeps of its group, the handshakes of its sockets, its connections and its buffers.
 -- A reader learns here for which plain manager, whose ends are those of the private pipes, a manager stands.
-use Rattle.std.specs.Prelude.{◌≡◌, ℕ, true, false, List, length, map, replicate, slice_index_or, slice_set, Option, Some, None}
+use Rattle.std.specs.Prelude.{◌≡◌, ℕ, false, List, length, map, replicate, slice_index_or, slice_set, Option, Some, None, ◌<◌, ◌^◌}
 use Rattle.smc_num.specs.declared.Side.{Side}
 use Rattle.smc_num.specs.Names.{up_to}
 use Rattle.smc_num.specs.Links.{Known, live_links}
@@ -31,6 +31,10 @@ abbrev pub hand_of : Option Hand → Hand
 hand_of None = no_hand
 hand_of (Some hand) = hand
 
+-- the handshake of a socket, among those that a side keeps
+abbrev pub hand_in : ℕ → List (Option Hand) → Hand
+hand_in s hands = slice_index_or (map hand_of hands) s no_hand
+
 -- the handshake of a socket
 abbrev pub hand_at : {E : Type 0} → ℕ → Manager E → Hand
 hand_at s m = slice_index_or m.hands s no_hand
@@ -56,9 +60,8 @@ new_manager x setup = record {
   regions = map (λ rmb. fresh rmb (elements_of setup x) (element_size setup)) (up_to (rmbs_of setup x));
 }
 
--- a plain end is tied to the links of its side: one that is established is on the link of its route, and it knows the live ones
+-- a plain end is tied to the links of its side: it knows the live ones
 pub record IsTied (known : List Known) (c : Connection Half) : Type 0 where
-  pub link : c.route.up ≡ true → c.end.link ≡ c.route.link
   pub live : c.end.live ≡ live_links known
 
 -- that of what may be no connection
@@ -77,3 +80,9 @@ pub record StandsFor (v : Manager Kept) (m : Manager Half) : Type 0 where
   pub works : Works v.desk v.records m
   pub hands : v.hands ≡ m.hands
   pub regions : v.regions ≡ m.regions
+
+-- that there is such a plain manager, of whose ends the first numbers are small
+pub record IsWorking (d : Desk) (r : Records Kept) : Type 0 where
+  pub plain : Manager Half
+  pub works : Works d r plain
+  pub number : r.terms.number < 2 ^ 63

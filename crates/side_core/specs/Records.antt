@@ -3,6 +3,7 @@
 use Rattle.std.specs.Prelude.{◌≡◌, ◌<◌, ◌^◌, ℕ, ◌+◌, ◌-◌, ◌==◌, Bool, true, false, List, length, replicate, slice_index_or, slice_set, Option, Some, None, option_map, unwrap_or}
 use Rattle.std.specs.List.{position}
 use Rattle.smc_num.specs.declared.LinkId.{LinkId}
+use Rattle.smc_num.specs.Names.{no_link}
 use Rattle.clc_wire.specs.declared.offer.Offer.{Offer}
 use Rattle.element_ledger.specs.declared.Element.{Element}
 use Rattle.pipe_model.specs.Words.{passes}
@@ -39,6 +40,10 @@ half_at s r = unwrap_or (option_map (λ c. c.end) (conn_at s r)) (fresh r.terms.
 -- the route of a socket's connection
 abbrev pub route_at : {E : Type 0} → ℕ → Records E → Option Route
 route_at s r = option_map (λ c. c.route) (conn_at s r)
+
+-- the link of a socket's connection
+abbrev pub link_at : {E : Type 0} → ℕ → Records E → LinkId
+link_at s r = unwrap_or (option_map (λ c. c.route.link) (conn_at s r)) no_link
 
 -- whether the side gave the connection this token
 abbrev pub has_token : {E : Type 0} → ℕ → Option (Connection E) → Bool
@@ -88,10 +93,12 @@ rises s r = changes s (λ c. record c { route = record c.route { up = true }; en
 abbrev pub leaves : {E : Type 0} → ℕ → Records E → Records E
 leaves s r = record r { by_socket = slice_set r.by_socket s None; spare = r.spare + 1 }
 
--- a record stands for a plain one: the route is the same, and what is kept of the end stands for the plain end
+-- a record stands for a plain one: the route is the same, an end that is established is on the route's link, and what is kept
+-- of the end stands for the plain end
 pub record Stands (k : Connection Kept) (c : Connection Half) : Type 0 where
   pub route : k.route ≡ c.route
   pub up : c.end.up ≡ c.route.up
+  pub link : c.route.up ≡ true → c.end.link ≡ c.route.link
   pub end : StandsFor k.end c.end
 
 -- that of what may be no connection

@@ -26,6 +26,7 @@ pub record IsSet (setup : Setup) (x : Side) : Type 0 where
   pub size : setup.size_code ≤ 5
   pub depth : setup.depth ≤ 8
   pub number : 1 ≤ setup.number
+  pub most : setup.number < 2 ^ 16
   pub sockets : setup.sockets ≤ 256
 
 -- before first contact a side has no link, no key and no flow

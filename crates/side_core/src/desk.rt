@@ -1,6 +1,6 @@
 //! What a side keeps beside its connections: its group, its links and flows, its keys and those of its
 //! peer, and its elements (RFC 7609, sections 2, 3.3, 3.5 and 4.4).
-ghost use Rattle.std.specs.Prelude.{◌≡◌, ◌*◌, ◌<◌, ◌≤◌, ◌+◌, ◌-◌, ◌^◌, ◌==◌, All, false, true, length, map, filter, slice_index_or, unwrap_or, IfOk, IsSome, Some};
+ghost use Rattle.std.specs.Prelude.{[], ◌≡◌, ◌*◌, ◌<◌, ◌≤◌, ◌+◌, ◌-◌, ◌^◌, ◌==◌, All, false, true, length, map, filter, slice_index_or, unwrap_or, IfOk, IsSome, Some};
 ghost use Rattle.smc_num.specs.Names.{has_link, has, at_side, other as other_side};
 ghost use Rattle.std.specs.List.{position};
 ghost use Rattle.smc_num.specs.declared.LinkPhase.TheVariants.{Pending};
@@ -12,7 +12,7 @@ ghost use Rattle.element_ledger.specs.Lendings.{first_free, IsLent, changes_at, 
 ghost use Rattle.pipe_model.specs.Words.{rmbs_of, elements_of, passes};
 ghost use Rattle.pipe_model.specs.Messages.{offer};
 ghost use Rattle.side_core.specs.Setups.{IsSet};
-ghost use Rattle.side_core.specs.Desk.{new_desk, lacks_of, first_link, made_on, pair_at, own_key, next_place, peer_key, lends_next, takes_back, begins_group, makes_link, learns_offer, next_element, makes_pair, free_place, confirmed_by, IsConfirmLink, IsPendingFor};
+ghost use Rattle.side_core.specs.Desk.{pair_next, new_offer, new_desk, lacks_of, first_link, made_on, pair_at, own_key, next_place, peer_key, lends_next, takes_back, begins_group, makes_link, learns_offer, next_element, makes_pair, free_place, confirmed_by, IsConfirmLink, IsPendingFor};
 
 use crate::messages;
 use arrayvec::ArrayVec;
@@ -171,6 +171,13 @@ impl Desk {
         &self.setup
     }
 
+    /// How many elements its RMB has.
+    pub fn elements(&self) -> u8
+        ensures { result ≡ elements_of self.now.setup self.now.side }
+    {
+        elements(&self.setup, self.side)
+    }
+
     /// Its group, 0 for none.
     pub fn group(&self) -> u32
         ensures { result ≡ self.now.group }
@@ -272,7 +279,7 @@ impl Desk {
 
     /// The place of the lowest free element: an RMB, which is the side's one, and an index.
     #[tactic(auto, using(crate::proofs::OneRmb::first_in_one))]
-    fn next_place(&self) -> (u8, u8)
+    pub fn next_place(&self) -> (u8, u8)
         requires { IsSome (first_free self.now.rows) }
         ensures place { record { rmb = result.0; index = result.1 } ≡ next_place self.now }
         ensures rmb { result.0 ≡ 1 }
@@ -337,27 +344,49 @@ impl Desk {
     }
 
     /// First contact begins on a socket, with an offer of the RMB for a link that is to be made.
-    pub fn begin_group(&mut self, s: u32, link: LinkId)
+    fn begin_group(&mut self, s: u32, link: LinkId, rmb: u8)
+        requires rmb { rmb ≡ 1 }
         requires none { self.old.group ≡ 0 }
         requires slot { link.slot ≡ 1 }
         requires named { (link.group == 0) ≡ false }
         requires begun { self.old.begun < 2 ^ 31 }
         requires serial { self.old.serial < 2 ^ 20 }
-        ensures { self.new ≡ begins_group s link 1 self.old }
+        ensures desk { self.new ≡ begins_group s link rmb self.old }
+        ensures quiet { self.old.links.known ≡ [] }
+        ensures pair { pair_at link.slot self.new ≡ pair_next link.slot self.old }
+        ensures key { own_key rmb link.slot self.new ≡ own_key rmb link.slot self.old }
     {
         self.make_pair(link.slot);
         self.links.clear();
         self.flows.begin_first();
-        match self.keys.register(1, link) {
+        match self.keys.register(rmb, link) {
             Ok(_) => {}
             Err(_) => unreachable!(),
         }
-        self.confirmed.push(1);
+        self.confirmed.push(rmb);
         self.group = link.group;
         if self.side == Side::B {
             self.begun += 1;
         }
         self.first = s;
+    }
+
+    /// First contact begins on a socket with an offer of the lowest free element under a token, for a link
+    /// that is to be made.
+    pub fn begin(&mut self, s: u32, link: LinkId, token: u32) -> Offer
+        requires none { self.old.group ≡ 0 }
+        requires slot { link.slot ≡ 1 }
+        requires named { (link.group == 0) ≡ false }
+        requires begun { self.old.begun < 2 ^ 31 }
+        requires serial { self.old.serial < 2 ^ 20 }
+        requires free { IsSome (first_free self.old.rows) }
+        ensures offer { result ≡ new_offer true link token self.old }
+        ensures desk { self.new ≡ begins_group s link (next_place self.old).rmb self.old }
+        ensures quiet { self.old.links.known ≡ [] }
+    {
+        let (rmb, _) = self.next_place();
+        self.begin_group(s, link, rmb);
+        self.offer(true, link, token)
     }
 
     /// A queue pair is made on a slot.
