@@ -1,6 +1,6 @@
 -- What a verdict leaves as it is, and the manager after a message was taken.
 -- A reader learns here that a verdict changes the handshake of its own socket alone, and no buffer.
-use Rattle.std.proofs.Common.{◌≡◌, ◌∙◌, ℕ, Bool, true, false, List, Option, Some, None, refl, sym, ap, subst}
+use Rattle.std.proofs.Common.{◌≡◌, ◌∙◌, ◌<◌, ◌^◌, ℕ, arith, Bool, true, false, List, Option, Some, None, refl, sym, ap, subst}
 use Rattle.std.specs.Prelude.{slice_index_or, slice_set}
 use Rattle.smc_num.specs.declared.LinkId.{LinkId}
 use Rattle.clc_wire.specs.declared.message.ClcMessage.{ClcMessage}
@@ -13,7 +13,7 @@ use Rattle.pipe_model.specs.Handshake.{verdict}
 use Rattle.conn_end.specs.Kept.{Kept}
 use Rattle.side_core.specs.Records.{Connection, conn_at}
 use Rattle.side_core.specs.Desk.{Desk, lacks_of}
-use Rattle.side_core.specs.Manager.{Manager, Works, StandsFor, no_hand, hand_at, state_at, with_hand}
+use Rattle.side_core.specs.Manager.{IsWorking, Manager, Works, StandsFor, no_hand, hand_at, state_at, with_hand}
 use Rattle.side_core.specs.Taking.{verdict_at, by_verdict, quits_from, takes_message}
 use Rattle.side_core.proofs.Verdicts.{by_if}
 use Rattle.side_core.specs.Taking.{MayTake}
@@ -21,6 +21,7 @@ use Rattle.side_core.specs.Acting.{IsSoundAt}
 use Rattle.side_core.specs.Fit.{Allows, IsManager}
 use Rattle.side_core.proofs.Allowed.{allowed, asks_no_key}
 use Rattle.side_core.proofs.Takes.{takes_fit}
+use Rattle.pipe_model.specs.Pipe.{Terms}
 use Rattle.side_core.proofs.Managing.{take_plain}
 use Rattle.side_core.proofs.Hands.{works_hand}
 
@@ -90,4 +91,15 @@ taken_kept s message link paths v w step i may is works hands regions = record {
   plain = takes_message s message link paths i.plain;
   stands = taken_stands s message link paths v w i.plain step i.stands (is ∙ same_verdict s message paths v i.plain i.stands) (works i.plain i.stands.works) hands regions;
   fit = takes_fit s message link paths i.plain i.fit (take_plain s message link paths v i.plain i.stands may);
+}
+
+-- and the side works
+pub working : (v : Manager Kept) → IsManager v → IsWorking v.desk v.records
+working v i = record {
+  plain = i.plain;
+  works = i.stands.works;
+  number =
+      let most : i.plain.desk.setup.number < 2 ^ 16 = i.fit.set.most in
+      let same : v.records.terms.number ≡ i.plain.desk.setup.number = ap (λ (t : Terms). t.number) (i.stands.works.records.terms ∙ i.fit.terms) in
+      omega (arith, most, same);
 }

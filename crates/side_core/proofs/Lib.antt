@@ -19,6 +19,7 @@ pub mod Loans
 pub mod Managing
 pub mod Newly
 pub mod News
+pub mod Offering
 pub mod OneRmb
 pub mod Seats
 pub mod Shelving

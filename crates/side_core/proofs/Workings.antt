@@ -1,6 +1,7 @@
 -- What a change of the desk or of the connections leaves of a side that works.
 -- A reader learns here that the ends stay tied to the live links of their side.
-use Rattle.std.proofs.Common.{inl, inr, ℕ, ◌≡◌, ◌∙◌, ◌<◌, Bool, true, false, cond, List, length, set, Option, Some, None, option_map, refl, sym, ap, subst}
+use Rattle.std.proofs.Common.{true≢false, inl, inr, ℕ, ◌≡◌, ◌∙◌, ◌<◌, Bool, true, false, cond, List, length, set, Option, Some, None, option_map, refl, sym, ap, subst}
+use Rattle.std.specs.Prelude.{IsSome, IsSomeAnd}
 use Rattle.std.proofs.Math.ListN.{get_or}
 use Rattle.std.proofs.lemmas.Bool.{cases_eq}
 use Rattle.std.proofs.lemmas.List.{get_or-set_same, get_or-set_other}
@@ -90,3 +91,18 @@ route_within {E = E} s r route is = within (get_or r.by_socket s None) refl is
     within : (o : Option (Connection E)) → get_or r.by_socket s None ≡ o → option_map (λ c. c.route) o ≡ Some route → s < length r.by_socket
     within None e f = absurd (let g : None ≡ Some route = f in cc)
     within (Some k) e f = there_within r.by_socket s k e
+
+-- and so is one with a route of some kind
+pub some_there : (s : ℕ) (r : Records Kept) (P : Route → Type 0) → IsSomeAnd (route_at s r) P → IsSome (conn_at s r)
+some_there s r P some = at (conn_at s r) some
+  where
+    at : (o : Option (Connection Kept)) → IsSomeAnd (option_map (λ c. c.route) o) P → IsSome o
+    at None none = absurd none
+    at (Some k) holds = refl
+
+pub some_within : (s : ℕ) (r : Records Kept) → IsSome (conn_at s r) → s < length r.by_socket
+some_within s r some = at (conn_at s r) refl some
+  where
+    at : (o : Option (Connection Kept)) → conn_at s r ≡ o → IsSome o → s < length r.by_socket
+    at None e none = absurd (true≢false (sym none))
+    at (Some k) e holds = there_within r.by_socket s k e

@@ -1,6 +1,6 @@
 -- What a manager does with a CLC message.
 -- A reader learns here, verdict by verdict, what is posted, what the manager keeps then, and what a caller must see to.
-use Rattle.std.specs.Prelude.{◌≡◌, ◌≤◌, ◌<◌, ◌^◌, ℕ, ◌+◌, ◌==◌, ◌&&◌, not, Bool, true, false, if◌then◌else◌, List, [], ◌∷◌, ◌++◌, length, filter_map, Option, Some, None, option_map}
+use Rattle.std.specs.Prelude.{◌≡◌, ◌≤◌, ◌<◌, ◌^◌, ℕ, ◌+◌, ◌==◌, ◌&&◌, Bool, true, false, if◌then◌else◌, List, [], ◌∷◌, ◌++◌, length, filter_map, Option, Some, None, option_map}
 use Rattle.smc_num.specs.declared.LinkId.{LinkId}
 use Rattle.smc_num.specs.Links.{live_links}
 use Rattle.smc_num.specs.Places.{rmb_at}
@@ -45,10 +45,15 @@ abbrev pub asks_link : {E : Type 0} → LinkId → ClcMessage → Manager E → 
 asks_link link (Confirm o) m = if o.first then Llc m.desk.side link (confirm_link m.desk.setup m.desk.side false link (pair_at link.slot m.desk)) ∷ [] else []
 asks_link link message m = []
 
+-- the Confirm that answers an Accept
+abbrev pub confirm_posts : {E : Type 0} → ℕ → Bool → ClcMessage → LinkId → Manager E → List Post
+confirm_posts s first (Accept o) link m = Clc m.desk.side s (Some link) (Confirm (offer_for first link m)) ∷ []
+confirm_posts s first message link m = []
+
 -- the CLC and LLC posts of a verdict, where the message is about this link
 abbrev pub verdict_posts : {E : Type 0} → ℕ → ClcMessage → LinkId → List Bool → Manager E → ClcStep → List Post
 verdict_posts s message link paths m (SendAccept first) = let to : LinkId = offered_link first paths m in Clc m.desk.side s (Some to) (Accept (offer_for first to m)) ∷ []
-verdict_posts s (Accept o) link paths m (SendConfirm first) = Clc m.desk.side s (Some link) (Confirm (offer_for first link m)) ∷ []
+verdict_posts s message link paths m (SendConfirm first) = confirm_posts s first message link m
 verdict_posts s message link paths m (Decline lack) = Clc m.desk.side s None (DeclineMessage (refusal m.desk.side lack)) ∷ []
 verdict_posts s message link paths m Ready = asks_link link message m
 verdict_posts s message link paths m _ = []
@@ -94,32 +99,46 @@ later_confirms s link o m = rises_at s (hears s o (starts s link m))
 abbrev pub is_ready : ℕ → LinkId → Offer → Manager Half → Manager Half
 is_ready s link o m = if o.first then hears s o (with_desk (learns_offer link o) m) else rises_at s (hears s o m)
 
+-- the client takes an Accept
+abbrev pub confirms_by : ℕ → Bool → ClcMessage → LinkId → Manager Half → Manager Half
+confirms_by s first (Accept o) link m = if first then first_confirms s link o m else later_confirms s link o m
+confirms_by s first message link m = m
+
+-- the server is ready for a message
+abbrev pub readies_by : ℕ → ClcMessage → LinkId → Manager Half → Manager Half
+readies_by s (Confirm o) link m = is_ready s link o m
+readies_by s message link m = m
+
 -- what a verdict makes of a manager, the states of its handshakes apart
 abbrev pub by_verdict : ℕ → ClcMessage → LinkId → List Bool → Manager Half → ClcStep → Manager Half
 by_verdict s message link paths m (SendAccept first) = accepts s first (offered_link first paths m) m
-by_verdict s (Accept o) link paths m (SendConfirm first) = if first then first_confirms s link o m else later_confirms s link o m
-by_verdict s (Confirm o) link paths m Ready = is_ready s link o m
+by_verdict s message link paths m (SendConfirm first) = confirms_by s first message link m
+by_verdict s message link paths m Ready = readies_by s message link m
 by_verdict s message link paths m (Decline lack) = quits s m
 by_verdict s message link paths m Fell = quits s m
 by_verdict s message link paths m Lost = quits s m
 by_verdict s message link paths m (Wrong kind) = quits s m
 by_verdict s message link paths m _ = m
 
--- whether a verdict establishes the end at once
-abbrev pub establishes : ClcMessage → ClcStep → Bool
-establishes message (SendConfirm first) = not first
-establishes (Confirm o) Ready = not o.first
-establishes message _ = false
-
 -- the manager after it took a message
 abbrev pub takes_message : ℕ → ClcMessage → LinkId → List Bool → Manager Half → Manager Half
 takes_message s message link paths m = let step : ClcStep = verdict_at s message paths m in
     with_hand s (record (hand_at s m) { state = after_step step message (state_at s m) }) (by_verdict s message link paths m step)
 
--- what a verdict makes the end post that it establishes: whatever became due before
+-- what the client's end posts as it is established by an Accept
+abbrev pub confirmed_posts : ℕ → Bool → ClcMessage → LinkId → Manager Half → List Post
+confirmed_posts s first (Accept o) link m = if first then [] else risen_at s (hears s o (starts s link m))
+confirmed_posts s first message link m = []
+
+-- what the server's end posts as it is established by a Confirm: whatever became due before
+abbrev pub ready_posts : ℕ → ClcMessage → Manager Half → List Post
+ready_posts s (Confirm o) m = if o.first then [] else risen_at s (hears s o m)
+ready_posts s message m = []
+
+-- what a verdict makes the end post that it establishes
 abbrev pub verdict_risen : ℕ → ClcMessage → LinkId → Manager Half → ClcStep → List Post
-verdict_risen s (Accept o) link m (SendConfirm first) = if first then [] else risen_at s (hears s o (starts s link m))
-verdict_risen s (Confirm o) link m Ready = if o.first then [] else risen_at s (hears s o m)
+verdict_risen s message link m (SendConfirm first) = confirmed_posts s first message link m
+verdict_risen s message link m Ready = ready_posts s message m
 verdict_risen s message link m _ = []
 
 -- all that a manager posts as it takes a message

@@ -14,8 +14,9 @@ ghost use Rattle.smc_num.specs.Links.{live_links, first_live};
 ghost use Rattle.clc_handshake.specs.Stages.{named_group};
 ghost use Rattle.pipe_model.specs.Ends.{Half};
 ghost use Rattle.pipe_model.specs.Replies.{step_told, ready_told};
+ghost use Rattle.pipe_model.specs.declared.verdict.ClcStep.TheVariants.{SendConfirm, Ready};
 ghost use Rattle.side_core.specs.Manager.{IsWorking, Manager, Works};
-ghost use Rattle.side_core.specs.Taking.{accepts, quits, rises_at, IsOffer, is_ready, asks_link, starts, first_confirms, later_confirms, by_verdict, verdict_posts, verdict_risen, offered_link, hears, offer_for};
+ghost use Rattle.side_core.specs.Taking.{IsOffer, accepts, asks_link, by_verdict, confirm_posts, confirmed_posts, confirms_by, first_confirms, hears, is_ready, later_confirms, offer_for, offered_link, quits, readies_by, ready_posts, rises_at, starts, verdict_posts, verdict_risen};
 
 use crate::connections::Connections;
 use crate::desk::Desk;
@@ -294,6 +295,59 @@ fn decline(desk: &Desk, s: u32, lack: Lack, posts: &mut ArrayVec<Post, 6>)
     push_clc(posts, desk, s, None, ClcMessage::Decline(refusal));
 }
 
+/// The client takes an Accept.
+fn confirm(
+    desk: &mut Desk,
+    connections: &mut Connections,
+    s: u32,
+    first: bool,
+    message: &ClcMessage,
+    link: LinkId,
+    posts: &mut ArrayVec<Post, 6>,
+)
+    requires may { Allows s (SendConfirm first) message.now link [] desk.old connections.old }
+    requires working { IsWorking desk.old connections.old }
+    requires room { length posts.old.items ≤ 2 }
+    ensures works { (m : Manager Half) → Works desk.old connections.old m → Works desk.new connections.new (confirms_by s first message.now link m) }
+    ensures posts { (m : Manager Half) → Works desk.old connections.old m
+        → posts.new.items ≡ posts.old.items ++ (confirm_posts s first message.now link m ++ confirmed_posts s first message.now link m) }
+{
+    match message {
+        ClcMessage::Accept(offer) if first => confirm_first(
+            desk,
+            connections,
+            s,
+            link,
+            offer,
+            posts,
+        ),
+        ClcMessage::Accept(offer) => confirm_later(desk, connections, s, link, offer, posts),
+        _ => {}
+    }
+}
+
+/// The server takes a Confirm.
+fn take_confirm(
+    desk: &mut Desk,
+    connections: &mut Connections,
+    s: u32,
+    message: &ClcMessage,
+    link: LinkId,
+    posts: &mut ArrayVec<Post, 6>,
+)
+    requires may { Allows s Ready message.now link [] desk.old connections.old }
+    requires working { IsWorking desk.old connections.old }
+    requires room { length posts.old.items ≤ 2 }
+    ensures works { (m : Manager Half) → Works desk.old connections.old m → Works desk.new connections.new (readies_by s message.now link m) }
+    ensures posts { (m : Manager Half) → Works desk.old connections.old m
+        → posts.new.items ≡ posts.old.items ++ (asks_link link message.now m ++ ready_posts s message.now m) }
+{
+    match message {
+        ClcMessage::Confirm(offer) => be_ready(desk, connections, s, link, offer, posts),
+        _ => {}
+    }
+}
+
 /// Carries out a step of the handshake with a message about a link.
 pub fn carry_out(
     desk: &mut Desk,
@@ -312,29 +366,24 @@ pub fn carry_out(
     ensures posts { (m : Manager Half) → Works desk.old connections.old m
         → posts.new.items ≡ posts.old.items ++ (verdict_posts s message.now link paths.now m step ++ verdict_risen s message.now link m step) }
 {
-    match (step, message) {
-        (ClcStep::SendAccept { first: true }, _) => accept_first(
+    match step {
+        ClcStep::SendAccept { first: true } => accept_first(desk, connections, s, paths, posts),
+        ClcStep::SendAccept { first: false } => accept_later(desk, connections, s, posts),
+        ClcStep::SendConfirm { first } => confirm(
             desk,
             connections,
             s,
-            paths,
+            first,
+            message,
+            link,
             posts,
         ),
-        (ClcStep::SendAccept { first: false }, _) => accept_later(desk, connections, s, posts),
-        (ClcStep::SendConfirm { first: true }, ClcMessage::Accept(offer)) => {
-            confirm_first(desk, connections, s, link, offer, posts);
-        }
-        (ClcStep::SendConfirm { first: false }, ClcMessage::Accept(offer)) => {
-            confirm_later(desk, connections, s, link, offer, posts);
-        }
-        (ClcStep::Ready, ClcMessage::Confirm(offer)) => {
-            be_ready(desk, connections, s, link, offer, posts);
-        }
-        (ClcStep::Decline(lack), _) => {
+        ClcStep::Ready => take_confirm(desk, connections, s, message, link, posts),
+        ClcStep::Decline(lack) => {
             decline(desk, s, lack, posts);
             quit(desk, connections, s);
         }
-        (ClcStep::Fell | ClcStep::Lost | ClcStep::Wrong(_), _) => quit(desk, connections, s),
-        _ => {}
+        ClcStep::Fell | ClcStep::Lost | ClcStep::Wrong(_) => quit(desk, connections, s),
+        ClcStep::AskKey | ClcStep::Wait(_) => {}
     }
 }

@@ -1,35 +1,35 @@
-use Rattle.std.proofs.Common.{rules, if◌then◌else◌, IfSome, IsSomeAnd, Bool, List, ◌≡◌, ◌++◌, ◌∷◌, ◌≤◌, ◌<◌, ◌==◌, ◌-◌, ◌^◌, ◌+◌, All, false, true, length, [], None, Some, IsSome, not, ℕ, ◌*◌, ◌/◌, ◌%◌, nat_eq, nat_lt, slice_index_or, slice_set, bit_and, bit_or, Fits, w8, w32, w64, Bor, MutBor}
-use Rattle.smc_num.specs.Places.{rmb_at}
-use Rattle.side_core.specs.Setups.{CanBegin, CanStart}
-use Rattle.side_core.specs.Records.{begins, conn_at, route_at}
-use Rattle.side_core.specs.Fit.{Allows, IsOneSlot, beside}
-use Rattle.side_core.specs.Desk.{first_link, lends_next, made_on, pair_at}
-use Rattle.side_core.specs.Acting.{IsSoundAt, risen_at, way_of}
-use Rattle.pipe_model.specs.declared.post.Post.TheVariants.{Clc, Llc}
-use Rattle.pipe_model.specs.Messages.{confirm_link, refusal}
-use Rattle.element_ledger.specs.Lendings.{IsLent}
-use Rattle.clc_wire.specs.declared.message.ClcMessage.TheVariants.{Accept, Confirm}
-use Rattle.clc_wire.specs.declared.message.ClcMessage.TheVariants.{Decline as DeclineMessage}
-use Rattle.smc_num.specs.Links.{live_links, first_live}
-use Rattle.clc_handshake.specs.Stages.{named_group}
-use Rattle.pipe_model.specs.Ends.{Half}
-use Rattle.pipe_model.specs.Replies.{step_told, ready_told}
-use Rattle.side_core.specs.Manager.{Manager, Works}
-use Rattle.side_core.specs.Taking.{accepts, quits, rises_at, IsOffer, is_ready, asks_link, starts, first_confirms, later_confirms, by_verdict, verdict_posts, verdict_risen, offered_link, hears, offer_for}
+use Rattle.std.proofs.Common.{refl, ◌≡◌, ◌++◌, ◌∷◌, false, [], subst, cond, sym}
+use Rattle.side_core.specs.Desk.{pair_at}
+use Rattle.side_core.specs.Acting.{risen_at}
+use Rattle.pipe_model.specs.declared.post.Post.TheVariants.{Llc}
+use Rattle.pipe_model.specs.Messages.{confirm_link}
+use Rattle.side_core.specs.Manager.{Works}
+use Rattle.side_core.specs.Taking.{rises_at, hears}
+use Rattle.side_core.specs.Taking.{with_desk, hears, rises_at}
+use Rattle.side_core.specs.Desk.{learns_offer}
+use Rattle.side_core.specs.Acting.{risen_at}
+use Rattle.side_core.proofs.Workings.{works_desk, works_hears, some_there, some_within}
+use Rattle.side_core.proofs.Hearing.{may_rise_heard}
 use Rattle.side_core.proofs.taking.be_ready.Goals as goal
 
 -- src/taking.rt:231:5
 pub rise-requires-clause-there : goal.rise-requires-clause-there
-rise-requires-clause-there c = ?
+rise-requires-clause-there c = (may_rise_heard c.args.s c.args.offer.now c.args.connections.now c.aim-2.new.self c.requires.working.plain.records c.requires.working.works.records (c.aim-2.ensures c.requires.working.plain.records c.requires.working.works.records) (some_there c.args.s c.args.connections.now _ c.requires.route) c.requires.heard.rmb c.requires.sound).peer
 
 -- src/taking.rt:231:5
 pub rise-requires-clause-sound : goal.rise-requires-clause-sound
-rise-requires-clause-sound c = ?
+rise-requires-clause-sound c = (may_rise_heard c.args.s c.args.offer.now c.args.connections.now c.aim-2.new.self c.requires.working.plain.records c.requires.working.works.records (c.aim-2.ensures c.requires.working.plain.records c.requires.working.works.records) (some_there c.args.s c.args.connections.now _ c.requires.route) c.requires.heard.rmb c.requires.sound).sound
 
 -- src/taking.rt:208:1
 pub returns-clause-works : goal.returns-clause-works
-returns-clause-works c = ?
+returns-clause-works c = λ m works. subst (λ b. Works c.args.desk.now c.rise.new.connections (cond b (hears c.args.s c.args.offer.now (with_desk (learns_offer c.args.link c.args.offer.now) m)) (rises_at c.args.s (hears c.args.s c.args.offer.now m)))) (sym c.if-offer.false) (c.rise.ensures.works (hears c.args.s c.args.offer.now m) (works_hears c.args.desk.now c.args.connections.now c.aim-2.new.self m c.args.s c.args.offer.now (some_within c.args.s c.args.connections.now (some_there c.args.s c.args.connections.now _ c.requires.route)) c.aim-2.ensures works))
 
 -- src/taking.rt:208:1
 pub returns-clause-posts : goal.returns-clause-posts
-returns-clause-posts c = ?
+returns-clause-posts c = λ m works. subst (λ b. c.rise.new.posts.items ≡ c.args.posts.now.items ++ (cond b (Llc m.desk.side c.args.link (confirm_link m.desk.setup m.desk.side false c.args.link (pair_at c.args.link.slot m.desk)) ∷ []) [] ++ cond b [] (risen_at c.args.s (hears c.args.s c.args.offer.now m)))) (sym c.if-offer.false) (c.rise.ensures.posts (hears c.args.s c.args.offer.now m) (works_hears c.args.desk.now c.args.connections.now c.aim-2.new.self m c.args.s c.args.offer.now (some_within c.args.s c.args.connections.now (some_there c.args.s c.args.connections.now _ c.requires.route)) c.aim-2.ensures works))
+
+-- src/taking.rt
+pub returns-then-offer-clause-works : goal.returns-then-offer-clause-works
+returns-then-offer-clause-works c = λ m works. subst (λ b. Works c.learn.new.self c.aim.new.self (cond b (hears c.args.s c.args.offer.now (with_desk (learns_offer c.args.link c.args.offer.now) m)) (rises_at c.args.s (hears c.args.s c.args.offer.now m)))) (sym c.if-offer.true)
+    (works_hears c.learn.new.self c.args.connections.now c.aim.new.self (with_desk (learns_offer c.args.link c.args.offer.now) m) c.args.s c.args.offer.now (some_within c.args.s c.args.connections.now (some_there c.args.s c.args.connections.now _ c.requires.route)) c.aim.ensures
+    (works_desk c.args.desk.now c.learn.new.self c.args.connections.now m (learns_offer c.args.link c.args.offer.now) c.learn.ensures refl works))

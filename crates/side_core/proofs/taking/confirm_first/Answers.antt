@@ -1,39 +1,31 @@
-use Rattle.std.proofs.Common.{rules, if◌then◌else◌, IfSome, IsSomeAnd, Bool, List, ◌≡◌, ◌++◌, ◌∷◌, ◌≤◌, ◌<◌, ◌==◌, ◌-◌, ◌^◌, ◌+◌, All, false, true, length, [], None, Some, IsSome, not, ℕ, ◌*◌, ◌/◌, ◌%◌, nat_eq, nat_lt, slice_index_or, slice_set, bit_and, bit_or, Fits, w8, w32, w64, Bor, MutBor}
-use Rattle.smc_num.specs.Places.{rmb_at}
-use Rattle.side_core.specs.Setups.{CanBegin, CanStart}
-use Rattle.side_core.specs.Records.{begins, conn_at, route_at}
-use Rattle.side_core.specs.Fit.{Allows, IsOneSlot, beside}
-use Rattle.side_core.specs.Desk.{first_link, lends_next, made_on, pair_at}
-use Rattle.side_core.specs.Acting.{IsSoundAt, risen_at, way_of}
-use Rattle.pipe_model.specs.declared.post.Post.TheVariants.{Clc, Llc}
-use Rattle.pipe_model.specs.Messages.{confirm_link, refusal}
-use Rattle.element_ledger.specs.Lendings.{IsLent}
-use Rattle.clc_wire.specs.declared.message.ClcMessage.TheVariants.{Accept, Confirm}
-use Rattle.clc_wire.specs.declared.message.ClcMessage.TheVariants.{Decline as DeclineMessage}
-use Rattle.smc_num.specs.Links.{live_links, first_live}
-use Rattle.clc_handshake.specs.Stages.{named_group}
-use Rattle.pipe_model.specs.Ends.{Half}
-use Rattle.pipe_model.specs.Replies.{step_told, ready_told}
-use Rattle.side_core.specs.Manager.{Manager, Works}
-use Rattle.side_core.specs.Taking.{accepts, quits, rises_at, IsOffer, is_ready, asks_link, starts, first_confirms, later_confirms, by_verdict, verdict_posts, verdict_risen, offered_link, hears, offer_for}
+use Rattle.std.proofs.Common.{◌≤◌, ◌<◌, ◌+◌, true, ◌∙◌, subst, ap, sym}
+use Rattle.side_core.specs.Desk.{lends_next}
+use Rattle.smc_num.specs.Links.{live_links}
+use Rattle.side_core.specs.Taking.{starts}
+use Rattle.side_core.specs.Taking.{with_desk, starts}
+use Rattle.side_core.specs.Desk.{begins_group, makes_link, learns_offer, next_place, new_offer}
+use Rattle.smc_num.specs.Links.{live_links}
+use Rattle.side_core.proofs.Workings.{works_desk, works_hears}
+use Rattle.side_core.proofs.Hearing.{started_facts}
+use Rattle.side_core.proofs.Offering.{confirm_post}
 use Rattle.side_core.proofs.taking.confirm_first.Goals as goal
 
 -- src/taking.rt:178:5
 pub aim-requires-clause-there : goal.aim-requires-clause-there
-aim-requires-clause-there c = ?
+aim-requires-clause-there c = (started_facts c.args.s c.args.offer.now.token c.args.link c.args.connections.now c.start.new.connections (with_desk (λ x. learns_offer c.args.link c.args.offer.now (makes_link c.args.link (begins_group c.args.s c.args.link (next_place x).rmb x))) c.requires.working.plain) c.requires.working.works.records c.requires.can.none c.requires.can.socket c.requires.heard.new (c.start.ensures.works (with_desk (λ x. learns_offer c.args.link c.args.offer.now (makes_link c.args.link (begins_group c.args.s c.args.link (next_place x).rmb x))) c.requires.working.plain) (works_desk c.args.desk.now c.learn.new.self c.args.connections.now c.requires.working.plain (λ x. learns_offer c.args.link c.args.offer.now (makes_link c.args.link (begins_group c.args.s c.args.link (next_place x).rmb x))) (c.learn.ensures ∙ ap (learns_offer c.args.link c.args.offer.now) (c.make_link.ensures ∙ ap (makes_link c.args.link) c.begin-own.ensures.desk)) (sym (ap live_links c.begin-own.ensures.quiet)) c.requires.working.works)).records).there_is
 
 -- src/taking.rt:178:5
 pub aim-requires-clause-alone : goal.aim-requires-clause-alone
-aim-requires-clause-alone c = ?
+aim-requires-clause-alone c = (started_facts c.args.s c.args.offer.now.token c.args.link c.args.connections.now c.start.new.connections (with_desk (λ x. learns_offer c.args.link c.args.offer.now (makes_link c.args.link (begins_group c.args.s c.args.link (next_place x).rmb x))) c.requires.working.plain) c.requires.working.works.records c.requires.can.none c.requires.can.socket c.requires.heard.new (c.start.ensures.works (with_desk (λ x. learns_offer c.args.link c.args.offer.now (makes_link c.args.link (begins_group c.args.s c.args.link (next_place x).rmb x))) c.requires.working.plain) (works_desk c.args.desk.now c.learn.new.self c.args.connections.now c.requires.working.plain (λ x. learns_offer c.args.link c.args.offer.now (makes_link c.args.link (begins_group c.args.s c.args.link (next_place x).rmb x))) (c.learn.ensures ∙ ap (learns_offer c.args.link c.args.offer.now) (c.make_link.ensures ∙ ap (makes_link c.args.link) c.begin-own.ensures.desk)) (sym (ap live_links c.begin-own.ensures.quiet)) c.requires.working.works)).records).alone
 
 -- src/taking.rt:178:5
 pub aim-requires-clause-most : goal.aim-requires-clause-most
-aim-requires-clause-most c = ?
+aim-requires-clause-most c = subst (λ n. c.args.offer.now.token ≤ n) (sym (started_facts c.args.s c.args.offer.now.token c.args.link c.args.connections.now c.start.new.connections (with_desk (λ x. learns_offer c.args.link c.args.offer.now (makes_link c.args.link (begins_group c.args.s c.args.link (next_place x).rmb x))) c.requires.working.plain) c.requires.working.works.records c.requires.can.none c.requires.can.socket c.requires.heard.new (c.start.ensures.works (with_desk (λ x. learns_offer c.args.link c.args.offer.now (makes_link c.args.link (begins_group c.args.s c.args.link (next_place x).rmb x))) c.requires.working.plain) (works_desk c.args.desk.now c.learn.new.self c.args.connections.now c.requires.working.plain (λ x. learns_offer c.args.link c.args.offer.now (makes_link c.args.link (begins_group c.args.s c.args.link (next_place x).rmb x))) (c.learn.ensures ∙ ap (learns_offer c.args.link c.args.offer.now) (c.make_link.ensures ∙ ap (makes_link c.args.link) c.begin-own.ensures.desk)) (sym (ap live_links c.begin-own.ensures.quiet)) c.requires.working.works)).records).sockets) c.requires.heard.within
 
 -- src/taking.rt:157:1
 pub returns-clause-works : goal.returns-clause-works
-returns-clause-works c = ?
+returns-clause-works c = λ m works. works_hears c.start.new.desk c.start.new.connections c.aim.new.self (starts c.args.s c.args.link (with_desk (λ x. learns_offer c.args.link c.args.offer.now (makes_link c.args.link (begins_group c.args.s c.args.link (next_place x).rmb x))) m)) c.args.s c.args.offer.now (subst (λ n. c.args.s < n) (sym (started_facts c.args.s c.args.offer.now.token c.args.link c.args.connections.now c.start.new.connections (with_desk (λ x. learns_offer c.args.link c.args.offer.now (makes_link c.args.link (begins_group c.args.s c.args.link (next_place x).rmb x))) c.requires.working.plain) c.requires.working.works.records c.requires.can.none c.requires.can.socket c.requires.heard.new (c.start.ensures.works (with_desk (λ x. learns_offer c.args.link c.args.offer.now (makes_link c.args.link (begins_group c.args.s c.args.link (next_place x).rmb x))) c.requires.working.plain) (works_desk c.args.desk.now c.learn.new.self c.args.connections.now c.requires.working.plain (λ x. learns_offer c.args.link c.args.offer.now (makes_link c.args.link (begins_group c.args.s c.args.link (next_place x).rmb x))) (c.learn.ensures ∙ ap (learns_offer c.args.link c.args.offer.now) (c.make_link.ensures ∙ ap (makes_link c.args.link) c.begin-own.ensures.desk)) (sym (ap live_links c.begin-own.ensures.quiet)) c.requires.working.works)).records).sockets) c.requires.can.socket) c.aim.ensures (c.start.ensures.works (with_desk (λ x. learns_offer c.args.link c.args.offer.now (makes_link c.args.link (begins_group c.args.s c.args.link (next_place x).rmb x))) m) (works_desk c.args.desk.now c.learn.new.self c.args.connections.now m (λ x. learns_offer c.args.link c.args.offer.now (makes_link c.args.link (begins_group c.args.s c.args.link (next_place x).rmb x))) (c.learn.ensures ∙ ap (learns_offer c.args.link c.args.offer.now) (c.make_link.ensures ∙ ap (makes_link c.args.link) c.begin-own.ensures.desk)) (sym (ap live_links c.begin-own.ensures.quiet)) works))
 
 -- src/taking.rt:157:1
 pub returns-clause-posts : goal.returns-clause-posts
-returns-clause-posts c = ?
+returns-clause-posts c = λ m works. confirm_post c.args.posts.now.items c.push_clc.new.posts.items c.args.s c.start.new.desk.side c.begin-own.result true c.args.link m c.push_clc.ensures (ap (λ d. d.side) (c.start.ensures.desk ∙ ap (lends_next c.args.s) (c.learn.ensures ∙ ap (learns_offer c.args.link c.args.offer.now) (c.make_link.ensures ∙ ap (makes_link c.args.link) c.begin-own.ensures.desk)) ∙ ap (λ x. lends_next c.args.s (learns_offer c.args.link c.args.offer.now (makes_link c.args.link (begins_group c.args.s c.args.link (next_place x).rmb x)))) works.desk)) (c.begin-own.ensures.offer ∙ ap (λ n. new_offer true c.args.link (n + 1) c.args.desk.now) (c.tokens.ensures ∙ works.records.tokens) ∙ ap (new_offer true c.args.link (m.records.tokens + 1)) works.desk)

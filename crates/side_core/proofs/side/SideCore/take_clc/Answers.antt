@@ -11,7 +11,7 @@ use Rattle.side_core.specs.Acting.{IsSoundAt}
 use Rattle.side_core.specs.Fit.{Allows, IsManager}
 use Rattle.side_core.specs.Manager.{Manager, StandsFor, hand_of, hand_at, state_at}
 use Rattle.side_core.specs.Taking.{MayTake, takes_message, verdict_at}
-use Rattle.side_core.proofs.Judging.{judged, never_asks, same_verdict, taken_kept, taken_stands}
+use Rattle.side_core.proofs.Judging.{judged, never_asks, same_verdict, taken_kept, taken_stands, working}
 use Rattle.side_core.proofs.side.SideCore.take_clc.Goals as goal
 
 pub carry_out-requires-clause-may : goal.carry_out-requires-clause-may
@@ -58,3 +58,9 @@ returns-clause-side c = λ m stands.
     let here : StandsFor v m = subst (λ (u : Manager Kept). StandsFor u m) (sym c.self.view_is) stands in
     subst (λ (l : LinkId). StandsFor w (takes_message c.args.s c.args.message.now l c.args.paths.now m)) c.unwrap_or-link.ensures
     (taken_stands c.args.s c.args.message.now c.unwrap_or-link.result c.args.paths.now v w m step here (is ∙ same_verdict c.args.s c.args.message.now c.args.paths.now v m here) (c.carry_out.ensures.works m here.works) c.judge-step.ensures.hands refl)
+
+pub carry_out-requires-clause-working : goal.carry_out-requires-clause-working
+carry_out-requires-clause-working c =
+    let x = c.self.inside in
+    let v : Manager Kept = record { desk = x.desk; hands = map hand_of x.hands.items; records = x.connections; regions = x.regions.items } in
+    working v c.self.invariant
