@@ -5,10 +5,10 @@ use Rattle.smc_num.specs.declared.Side.{Side}
 use Rattle.pipe_model.specs.declared.setup.Setup.{Setup}
 use Rattle.pipe_model.specs.declared.entry.Entry.{Entry}
 use Rattle.pipe_model.specs.History.{Offered, offered}
-use Rattle.pipe_model.specs.Connections.{IsUp, is_up, early_state, end_state}
+use Rattle.pipe_model.specs.Connections.{IsUp, early_state, end_state}
 use Rattle.pipe_model.specs.Lending.{Lending, lends_by, lent}
 use Rattle.world_core.specs.OneLink.{Stage, the_link}
-use Rattle.world_core.specs.Sockets.{IsWorld, on_link}
+use Rattle.world_core.specs.Sockets.{IsWorld}
 use Rattle.world_core.specs.Managers.{HasLendings, keeps_element, lending_due, lending_on}
 use Rattle.world_core.proofs.KeyedEnds.{behind}
 use Rattle.world_core.proofs.KnownEntries.{LentToUp}
@@ -35,10 +35,10 @@ pub lendings-kept : (setup : Setup) (payload : List ℕ) (e : Entry) (past : Lis
     → ((x : Side) (s : ℕ) → offered x s (e ∷ past) ≡ offered x s past) → ((x : Side) (s : ℕ) → keeps_element (end_state x s (e ∷ past)) ≡ keeps_element (end_state x s past)) → HasLendings setup payload (e ∷ past)
 lendings-kept setup payload e past h lent_same offers keeps = record {
   each = λ x s.
-    ap (λ (ls : List Lending). lending_on s ls) (lent_same x)
-    ∙ (h.each x s
-    ∙ (ap (λ b. if b then option_map (λ (o : Offered). lends_by s o.link o.offer) (offered x s past) else None) (sym (keeps x s))
-    ∙ ap (λ o. if keeps_element (end_state x s (e ∷ past)) then option_map (λ (o : Offered). lends_by s o.link o.offer) o else None) (sym (offers x s))));
+      ap (λ (ls : List Lending). lending_on s ls) (lent_same x)
+      ∙ (h.each x s
+      ∙ (ap (λ b. if b then option_map (λ (o : Offered). lends_by s o.link o.offer) (offered x s past) else None) (sym (keeps x s))
+      ∙ ap (λ o. if keeps_element (end_state x s (e ∷ past)) then option_map (λ (o : Offered). lends_by s o.link o.offer) o else None) (sym (offers x s))));
 }
 
 -- so each end that is up has one

@@ -64,6 +64,7 @@ pub mod PipeSteps
 pub mod Pipes
 pub mod Places
 pub mod PlainPosts
+pub mod PlainWires
 pub mod PlayedWorlds
 pub mod Quiet
 pub mod QuietEntries
@@ -79,6 +80,7 @@ pub mod SameManagers
 pub mod Senders
 pub mod SentBatches
 pub mod Shaken
+pub mod SmallEnds
 pub mod Sound
 pub mod StandingLendings
 pub mod StartedRows
@@ -88,8 +90,10 @@ pub mod Tables
 pub mod TakenAlone
 pub mod TakenAnswers
 pub mod TakenMessages
+pub mod TellsKept
 pub mod Tokens
 pub mod UpEnds
 pub mod Verdicts
 pub mod Ways
 pub mod WireEntries
+pub mod WireKept

@@ -2,8 +2,8 @@
 use Rattle.smc_num.specs.declared.LinkId.{LinkId}
 use Rattle.pipe_model.specs.declared.reply.Lack.TheVariants.{NotCapable}
 use Rattle.pipe_model.specs.Keys.{book_clc, book_of}
-use Rattle.std.proofs.Common.{◌≡◌, ◌∙◌, ℕ, ◌<◌, ◌==◌, ◌&&◌, ◌||◌, not, Bool, true, false, if◌then◌else◌, List, [], ◌∷◌, ◌++◌, refl, ap, sym, subst, eq-eqb, eqb-true, append-nil, true≢false, length}
-use Rattle.std.specs.Prelude.{Option, Some, None, option_map, unwrap_or, slice_set, slice_index_or}
+use Rattle.std.proofs.Common.{◌≡◌, ◌∙◌, ℕ, ◌==◌, ◌&&◌, ◌||◌, not, Bool, true, false, if◌then◌else◌, List, [], ◌∷◌, ◌++◌, refl, ap, sym, subst, eq-eqb, eqb-true, append-nil, true≢false, length}
+use Rattle.std.specs.Prelude.{None, option_map, unwrap_or, slice_set, slice_index_or}
 use Rattle.smc_num.specs.declared.Side.{Side}
 use Rattle.smc_num.specs.declared.Side.TheVariants.{A, B}
 use Rattle.smc_num.specs.Names.{other}
@@ -15,28 +15,25 @@ use Rattle.pipe_model.specs.declared.reply.Reply.TheVariants.{NameUsed, Declined
 use Rattle.pipe_model.specs.declared.reply.Lack.{Lack}
 use Rattle.pipe_model.specs.declared.post.Post.{Post}
 use Rattle.pipe_model.specs.declared.entry.Entry.{Entry}
-use Rattle.pipe_model.specs.Words.{element_size}
 use Rattle.pipe_model.specs.History.{Offered, offered}
-use Rattle.pipe_model.specs.Fabric.{fabric, act_in, peer, act_by, group_of}
-use Rattle.pipe_model.specs.Ends.{Half}
-use Rattle.pipe_model.specs.Connections.{EndState, NoEnd, WaitsAnswer, WaitsProposal, IsUp, HasFallen, is_up, early_state, end_state, after_event, after_loss, named_link, group_on, comes_up, up_by, items, part}
-use Rattle.pipe_model.specs.Lending.{lends, lent, leaves_handshake, lendings, free_places, Lending}
+use Rattle.pipe_model.specs.Fabric.{fabric, act_in, act_by, group_of}
+use Rattle.pipe_model.specs.Connections.{EndState, NoEnd, IsUp, HasFallen, is_up, early_state, end_state, after_event, after_loss, group_on, up_by, items}
+use Rattle.pipe_model.specs.Lending.{lent, leaves_handshake, lendings, free_places, Lending}
 use Rattle.pipe_model.specs.Fallback.{is_raw, is_opened}
 use Rattle.pipe_model.specs.Posts.{proposal_post, connection_posts}
 use Rattle.pipe_model.specs.Replies.{open_told}
-use Rattle.pipe_model.specs.Lawful.{asked, posted, reply_of}
+use Rattle.pipe_model.specs.Lawful.{asked}
 use Rattle.clc_handshake.specs.Stages.{Hand, first_state}
-use Rattle.side_core.specs.Manager.{Manager, with_hand}
+use Rattle.side_core.specs.Manager.{with_hand}
 use Rattle.world_core.specs.OneLink.{Stage, fabric_at}
-use Rattle.world_core.specs.Sockets.{Socket, Unopened, IsWorld, StandsAt, opened_at, up_at, early_at, HasSocket}
+use Rattle.world_core.specs.Sockets.{Socket, Unopened, IsWorld, opened_at, up_at, early_at, HasSocket}
 use Rattle.world_core.specs.Played.{IsPlayed}
 use Rattle.world_core.specs.Agreement.{IsShaken}
-use Rattle.world_core.specs.Managers.{manager_of, hand_of, awaits_confirm, heard_on, conn_of, each_socket, desk_of}
-use Rattle.world_core.proofs.DataPosts.{connections-data}
+use Rattle.world_core.specs.Managers.{manager_of, hand_of, awaits_confirm, conn_of, each_socket, desk_of}
 use Rattle.world_core.proofs.QuietEvents.{by-side, entry-of}
 use Rattle.world_core.proofs.QuietEntries.{only-deeds, same-group}
 use Rattle.world_core.proofs.Parts.{part-open}
-use Rattle.world_core.proofs.PlainPosts.{ArePlain, data-plain, plain-append, offer-stays, lends-none, lendings-stay}
+use Rattle.world_core.proofs.PlainPosts.{ArePlain, offer-stays, lends-none, lendings-stay}
 use Rattle.world_core.proofs.StillEntries.{silent-pipes, end-stays, lent-stays, still-desk}
 use Rattle.world_core.proofs.SameManagers.{SameDesk, SameRoute, same-desk, same-conn, same-spare}
 use Rattle.world_core.proofs.KeptManagers.{by-parts}
@@ -146,7 +143,7 @@ module _ (setup : Setup) (payload : List ℕ) (regions : List Buffer) (stage : S
     up = up-same x t;
     link = ap (λ o. option_map (λ (p : Offered). p.link) o) (offer-stays e past plain-now B t);
     heard = ap (λ b. if b then None else option_map (λ (p : Offered). p.offer) (offered (other x) t (e ∷ past))) (waits-same x t)
-      ∙ ap (λ o. if awaits_confirm (end_state x t past) then None else option_map (λ (p : Offered). p.offer) o) (offer-stays e past plain-now (other x) t);
+        ∙ ap (λ o. if awaits_confirm (end_state x t past) then None else option_map (λ (p : Offered). p.offer) o) (offer-stays e past plain-now (other x) t);
   }
 
   hand-else : (x : Side) (t : ℕ) → (t == s) ≡ false → hand_of x (e ∷ past) t ≡ hand_of x past t
@@ -158,13 +155,13 @@ module _ (setup : Setup) (payload : List ℕ) (regions : List Buffer) (stage : S
   pub opens-socket : IsSet setup payload regions s state front e past
   opens-socket = record {
     both = λ x. by-parts setup payload regions x (e ∷ past) (desk_of setup payload x past) (slice_set (each_socket (hand_of x past) setup.sockets) s (record { raw = false; state = state x }))
-      (each_socket (conn_of setup payload x past) setup.sockets) (length (lendings x past)) (length (free_places setup payload x past))
-      (same-desk setup payload x (e ∷ past) past (desk-now x))
-      (sym (set-socket (hand_of x past) (hand_of x (e ∷ past)) setup.sockets s (hand-else x)) ∙ ap (λ h. slice_set (each_socket (hand_of x past) setup.sockets) s h) (hand-at x))
-      (same-sockets (conn_of setup payload x (e ∷ past)) (conn_of setup payload x past) (λ t. same-conn setup payload x (e ∷ past) past t (route-same x t) (lendings-stay e past plain-now x) (lent-now x)
+        (each_socket (conn_of setup payload x past) setup.sockets) (length (lendings x past)) (length (free_places setup payload x past))
+        (same-desk setup payload x (e ∷ past) past (desk-now x))
+        (sym (set-socket (hand_of x past) (hand_of x (e ∷ past)) setup.sockets s (hand-else x)) ∙ ap (λ h. slice_set (each_socket (hand_of x past) setup.sockets) s h) (hand-at x))
+        (same-sockets (conn_of setup payload x (e ∷ past)) (conn_of setup payload x past) (λ t. same-conn setup payload x (e ∷ past) past t (route-same x t) (lendings-stay e past plain-now x) (lent-now x)
         (end-stays setup payload past e (no-items actor posts) x t (ap (λ o. unwrap_or (option_map (λ (link : LinkId). link.group) (option_map (λ (p : Offered). p.link) o)) 0) (offer-stays e past plain-now B t)))) setup.sockets)
-      (ap (λ (ls : List Lending). length ls) (lendings-stay e past plain-now x))
-      (same-spare setup payload x (e ∷ past) past (lent-now x));
+        (ap (λ (ls : List Lending). length ls) (lendings-stay e past plain-now x))
+        (same-spare setup payload x (e ∷ past) past (lent-now x));
     posts_are = made-posts;
   }
 
