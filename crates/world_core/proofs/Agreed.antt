@@ -26,6 +26,7 @@ use Rattle.world_core.specs.Played.{IsMade, IsPlayed}
 use Rattle.world_core.specs.OneLink.{the_link}
 use Rattle.world_core.specs.Wired.{cdc_under, cdcs, message, IsCarried, HasGone, EachItem, passes_by, keeps_open, IsOnLink}
 use Rattle.world_core.specs.WireSteps.{LandsNow, CompletesNow, Way, IsCdcOn, EachPost}
+use Rattle.world_core.specs.Goings.{Going, Stayed, Lands_own, Lands_other, Completes_own, Completes_other}
 use Rattle.world_core.specs.Agreement.{IsOnlyLink, HasOffers, GoesOn, IsShaken, IsElse, CarriesNoStranger, CanBe, Agree}
 use Rattle.world_core.proofs.DataPosts.{unseen-after, connections-data}
 use Rattle.world_core.proofs.Growth.{since-more}
@@ -212,6 +213,36 @@ module _ (setup : Setup) (payload : List ℕ) (e : Entry) (past : List Entry) (b
           carried-stays (element_size setup) the_link x o.offer.token e past (Now x s) (Then x s) posts-on (mark x s) (agree.carried x s o f) g (news-own x s o f _ _ g) w.0
       carried-by (inr (inl w)) = let l = w.0 in carried-lands-by l (w.1 s) (is-or-not x o.offer.token l.first.post)
       carried-by (inr (inr w)) = let l = w.0 in carried-completes-by l (w.1 s) (is-or-not x o.offer.token l.first.post)
+
+      -- how the end has gone, beside the wire
+      gone-lands-by : (l : LandsNow the_link x e past) → deeds payload s e.event e.reply past ≡ if_own (Lands x) x s (Some l.first.at) past → IsOrNot x o.offer.token l.first.post → Going the_link x o.offer.token e past (Now x s) (Then x s)
+      gone-lands-by l d (Is m i n) =
+          let place = first-stands past (unlanded the_link x past) l.first l.rest (unlanded-stand the_link x past) l.waiting in
+          Lands_own l m n (gone-over x s _ _ (Lands x ∷ Below s) (items-by s (Lands x ∷ []) (d ∙ own-some (Lands x) x s l.first.at past o l.first.post f place ∙ ap (λ b. if b then Lands x ∷ [] else []) i)) (gone-lands T x (Below s) (P s) (calm s)))
+      gone-lands-by l d (IsNot i n) =
+          let place = first-stands past (unlanded the_link x past) l.first l.rest (unlanded-stand the_link x past) l.waiting in
+          Lands_other l n (gone-over x s _ _ (Below s) (items-by s [] (d ∙ own-some (Lands x) x s l.first.at past o l.first.post f place ∙ ap (λ b. if b then Lands x ∷ [] else []) i)) (gone-below T x (Below s) (P s) (calm s)))
+
+      gone-completes-by : (l : CompletesNow the_link x e past) → deeds payload s e.event e.reply past ≡ if_own (Completes x) x s (Some l.first.at) past → IsOrNot x o.offer.token l.first.post → Going the_link x o.offer.token e past (Now x s) (Then x s)
+      gone-completes-by l d (Is m i n) =
+          let place = first-stands past (uncompleted the_link x past) l.first l.rest (uncompleted-stand the_link x past) l.waiting in
+          let b = next-completes (element_size setup) the_link x o.offer.token e past (Now x s) (Then x s) posts-on (mark x s) (agree.carried x s o f) l m n in
+          Completes_own l m n (gone-over x s _ _ (Completes x ∷ Below s) (items-by s (Completes x ∷ []) (d ∙ own-some (Completes x) x s l.first.at past o l.first.post f place ∙ ap (λ c. if c then Completes x ∷ [] else []) i))
+          (gone-completes T x (Below s) (P s) (calm s) b.x b.others (mark x s) b.is)) (has-returning (Now x s) b.x b.others b.is)
+      gone-completes-by l d (IsNot i n) =
+          let place = first-stands past (uncompleted the_link x past) l.first l.rest (uncompleted-stand the_link x past) l.waiting in
+          Completes_other l n (gone-over x s _ _ (Below s) (items-by s [] (d ∙ own-some (Completes x) x s l.first.at past o l.first.post f place ∙ ap (λ b. if b then Completes x ∷ [] else []) i)) (gone-below T x (Below s) (P s) (calm s)))
+
+      gone-by : Way payload the_link x e past → Going the_link x o.offer.token e past (Now x s) (Then x s)
+      gone-by (inl w) =
+          let passes = subst (λ is. EachItem (passes_by x) is) (sym (items-are payload 1 s e past))
+          (each-append (passes_by x) (deeds payload s e.event e.reply past) (Below s) (w.1 s) (each-more is_fate_or_up (passes_by x) (fate-or-up-passes x) (Below s) (calm s))) in
+          Stayed w.0 (all-passed-by T x (I s) (P s) passes)
+      gone-by (inr (inl w)) = let l = w.0 in gone-lands-by l (w.1 s) (is-or-not x o.offer.token l.first.post)
+      gone-by (inr (inr w)) = let l = w.0 in gone-completes-by l (w.1 s) (is-or-not x o.offer.token l.first.post)
+
+      pub gone : Going the_link x o.offer.token e past (Now x s) (Then x s)
+      gone = gone-by (way payload past e setup before x only made)
 
       -- what the link carried of an end it still carries
       pub carried-step : Goal

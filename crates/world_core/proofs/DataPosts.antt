@@ -84,7 +84,7 @@ connections-data setup payload e past =
     (offered_sockets setup past)
 
 -- what holds of a write and of a CDC message holds of them
-by-data : (P : Post → Type 0) → ((from : Side) (link : LinkId) (key address len : ℕ) → P (Write from link key address len))
+pub by-data : (P : Post → Type 0) → ((from : Side) (link : LinkId) (key address len : ℕ) → P (Write from link key address len))
     → ((from : Side) (link : LinkId) (m : CdcMessage) → P (Cdc from link m)) → (p : Post) → is_data p ≡ true → P p
 by-data P w c (Write from link key address len) e = w from link key address len
 by-data P w c (Cdc from link m) e = c from link m
@@ -97,7 +97,7 @@ unseen-filter_map f skips [] [] a = refl
 unseen-filter_map f skips [] (m ∷ more) a = rw (skips m a.0) (unseen-filter_map f skips [] more a.1)
 unseen-filter_map f skips (p ∷ ps) more a = rw (unseen-filter_map f skips ps more a) refl
 
-unseen-filter : (f : Post → Bool) → ((p : Post) → is_data p ≡ true → f p ≡ false) → (ps more : List Post) → AreData more → filter f (ps ++ more) ≡ filter f ps
+pub unseen-filter : (f : Post → Bool) → ((p : Post) → is_data p ≡ true → f p ≡ false) → (ps more : List Post) → AreData more → filter f (ps ++ more) ≡ filter f ps
 unseen-filter f skips [] [] a = refl
 unseen-filter f skips [] (m ∷ more) a = rw (skips m a.0) (unseen-filter f skips [] more a.1)
 unseen-filter f skips (p ∷ ps) more a = rw (unseen-filter f skips ps more a) refl

@@ -2,9 +2,12 @@ pub mod Agreement
 pub mod Connection
 pub mod Directed
 pub mod Due
+pub mod Goings
 pub mod Heard
 pub mod Lacking
 pub mod Lent
+pub mod LinkWorlds
+pub mod Managers
 pub mod OneLink
 pub mod Played
 pub mod Room
