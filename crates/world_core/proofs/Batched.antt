@@ -139,7 +139,7 @@ module _ (link : LinkId) (x : Side) where
   queue past = Posts (uncompleted link x past) ++ filter completes_later (Posts (unlanded link x past))
 
   module _ (e : Entry) (past : List Entry) where
-    new-unlanded : Posts (unlanded link x (e ∷ past)) ≡ drop (leaving link x e past) (Posts (unlanded link x past)) ++ filter (is_on link x) e.posts
+    pub new-unlanded : Posts (unlanded link x (e ∷ past)) ≡ drop (leaving link x e past) (Posts (unlanded link x past)) ++ filter (is_on link x) e.posts
     new-unlanded =
         map-append (λ c. c.post) (drop (leaving link x e past) (unlanded link x past)) (filter (λ c. is_on link x c.post) (numbered (next_number past) 1 e.posts)) ∙
         ap (λ ps. ps ++ Posts (filter (λ c. is_on link x c.post) (numbered (next_number past) 1 e.posts))) (posts-drop (leaving link x e past) (unlanded link x past)) ∙

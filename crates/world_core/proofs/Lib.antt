@@ -25,7 +25,9 @@ pub mod EntryItems
 pub mod FallenManagers
 pub mod Feasible
 pub mod FewUps
+pub mod Follows
 pub mod Groups
+pub mod Grown
 pub mod Growth
 pub mod Handshaken
 pub mod Handshakes
@@ -53,6 +55,7 @@ pub mod NewManagers
 pub mod NewOffers
 pub mod NoResets
 pub mod Offers
+pub mod OnWay
 pub mod OneSender
 pub mod OpenEnds
 pub mod OpenManagers
@@ -86,6 +89,7 @@ pub mod StandingLendings
 pub mod StartedRows
 pub mod StillEntries
 pub mod StillLent
+pub mod Stood
 pub mod Tables
 pub mod TakenAlone
 pub mod TakenAnswers

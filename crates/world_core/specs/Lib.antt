@@ -5,6 +5,7 @@ pub mod Due
 pub mod Goings
 pub mod Heard
 pub mod Lacking
+pub mod Landed
 pub mod Lent
 pub mod LinkWorlds
 pub mod Managers
