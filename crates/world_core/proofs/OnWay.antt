@@ -124,9 +124,25 @@ module _ (size : ℕ) (x : Side) (place : Place) (token : ℕ) where
       let r = next-round m.from some in
       let below = mod_below m.from size some in
       let zero-is : 0 % size ≡ 0 = ap (λ k. k % size) (let z : 0 ≡ 0 * size + 0 = omega arith in z) ∙ mod-mul-add 0 size 0 some in
-      let more : size < m.from % size + (m.snapshot.told - m.from) = gt-of (m.from % size + (m.snapshot.told - m.from)) size f in
-      (n, refl, inl (t, refl, omega (arith, below), (n, refl, inl (t, omega (arith, r, zero-is), omega (arith, r, near, up, below),
-        batch-at (m.from + (size - m.from % size) + (m.snapshot.told - m.from - (size - m.from % size))) link n m t (omega (arith, up, more, below))))))
+      let more : size < m.from % size + (m.snapshot.told - m.from) = gt-of (m.from % size + (m.snapshot.told - m.from)) size f in (
+        n,
+        refl,
+        inl (
+          t,
+          refl,
+          omega (arith, below),
+          (
+            n,
+            refl,
+            inl (
+              t,
+              omega (arith, r, zero-is),
+              omega (arith, r, near, up, below),
+              batch-at (m.from + (size - m.from % size) + (m.snapshot.told - m.from - (size - m.from % size))) link n m t (omega (arith, up, more, below)),
+            ),
+          ),
+        ),
+      )
 
   pub batch-own : (some : 0 < size) (key : ℕ) (o : Offer) (m : Sent) → m.check ≡ false → offered_place o ≡ place → o.token ≡ token → m.from ≤ m.snapshot.told → m.snapshot.told ≤ m.from + size → On m.from (cdc_posts size x key o m) (m ∷ []) m.snapshot.told
   batch-own some key o m c at t up near =

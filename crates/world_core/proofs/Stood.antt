@@ -85,12 +85,12 @@ module _ (size : ℕ) (place : Place) (b : Buffer) (is : IsElement size place b)
   else-where n above below = elim (cases_lt (n % size) (reach % size)) [
     | inl before ↦ inl before
     | inr from ↦ elim (cases_lt (n % size) (reach % size + len)) [
-        | inl within ↦
-            let j : ℕ = n % size - reach % size in
-            let r : (reach + j) % size ≡ reach % size + j = within-round size reach j (omega (arith, within, from, fits)) in
-            absurd (apart-in size n (reach + j) (some-size size place b is) (omega (arith, below)) (omega (arith, within, from, window, above)) (omega (arith, r)))
-        | inr behind ↦ inr behind
-      ]
+      | inl within ↦
+          let j : ℕ = n % size - reach % size in
+          let r : (reach + j) % size ≡ reach % size + j = within-round size reach j (omega (arith, within, from, fits)) in
+          absurd (apart-in size n (reach + j) (some-size size place b is) (omega (arith, below)) (omega (arith, within, from, window, above)) (omega (arith, r)))
+      | inr behind ↦ inr behind
+    ]
   ]
 
   of-old : (n : ℕ) → rd ≤ n → n < reach → byte_at (address_of size place n) b ≡ get_or out n 0 → byte_at (address_of size place n) After ≡ get_or out n 0
