@@ -38,7 +38,7 @@ same-offer : (o r : Offered) → Some o ≡ Some r → o ≡ r
 same-offer o r e = ap (λ q. unwrap_or q o) e
 
 -- a token that no offer gave after an entry was given by none before it
-else-before : (y : Side) (t : ℕ) (e : Entry) (past : List Entry) → GoesOn e past → (token : ℕ) → IsElse token (offered y t (e ∷ past)) → IsElse token (offered y t past)
+pub else-before : (y : Side) (t : ℕ) (e : Entry) (past : List Entry) → GoesOn e past → (token : ℕ) → IsElse token (offered y t (e ∷ past)) → IsElse token (offered y t past)
 else-before y t e past g token f = by (offered y t past) refl
   where
     by : (q : Option Offered) → offered y t past ≡ q → IsElse token q
@@ -46,7 +46,7 @@ else-before y t e past g token f = by (offered y t past) refl
     by (Some r) h = subst (λ q. IsElse token q) (g.kept y t r h) f
 
 -- the token of a new offer was given by none
-new-token : (setup : Setup) (y : Side) (s : ℕ) (o : Offered) (e : Entry) (past : List Entry) → HasOffers setup (e ∷ past) → GoesOn e past → offered y s (e ∷ past) ≡ Some o → offered y s past ≡ None → (t : ℕ) → IsElse o.offer.token (offered y t past)
+pub new-token : (setup : Setup) (y : Side) (s : ℕ) (o : Offered) (e : Entry) (past : List Entry) → HasOffers setup (e ∷ past) → GoesOn e past → offered y s (e ∷ past) ≡ Some o → offered y s past ≡ None → (t : ℕ) → IsElse o.offer.token (offered y t past)
 new-token setup y s o e past h g f n t = by (offered y t past) refl
   where
     by : (q : Option Offered) → offered y t past ≡ q → IsElse o.offer.token q
@@ -63,7 +63,7 @@ module _ (setup : Setup) (payload : List ℕ) where
   module _ (e : Entry) (past : List Entry) (before n m : ℕ) (made : IsMade setup payload past before e) (played : IsPlayed setup payload past n) (plays : IsPlayed setup payload (e ∷ past) m) (offers : HasOffers setup past) (only : IsOnlyLink past)
       (go : GoesOn e past) (shaken : IsShaken setup past) (shakes : IsShaken setup (e ∷ past)) (agree : Agree setup payload past) where
     -- an end that was offered just now has sent nothing
-    new-end : (x : Side) (s : ℕ) → offered (other x) s past ≡ None → (half x (pipe_of setup payload 1 s (e ∷ past))).sent ≡ []
+    pub new-end : (x : Side) (s : ℕ) → offered (other x) s past ≡ None → (half x (pipe_of setup payload 1 s (e ∷ past))).sent ≡ []
     new-end x s f = idle (terms_of setup) x (part payload 1 s (e ∷ past)) (part-open setup payload 1 s (e ∷ past) m plays shakes)
         (up-is setup payload (terms_of setup) x 1 s (e ∷ past) m plays shakes ∙ ap (λ b. b || is_up x s past) (comes-not-up setup payload x s e past go f) ∙ up-offered setup payload x s past shaken f)
 

@@ -38,6 +38,7 @@ pub mod InHistory
 pub mod KeptManagers
 pub mod KeyedEnds
 pub mod KnownEntries
+pub mod Landed
 pub mod Landings
 pub mod LawfulPasts
 pub mod LendingFacts
@@ -49,10 +50,12 @@ pub mod LinkManagers
 pub mod LinkMoves
 pub mod LinkRoom
 pub mod Lists
+pub mod Moved
 pub mod Moves
 pub mod NeverOver
 pub mod NewManagers
 pub mod NewOffers
+pub mod News
 pub mod NoResets
 pub mod Offers
 pub mod OnWay
@@ -85,6 +88,7 @@ pub mod SentBatches
 pub mod Shaken
 pub mod SmallEnds
 pub mod Sound
+pub mod Standing
 pub mod StandingLendings
 pub mod StartedRows
 pub mod StillEntries
@@ -96,6 +100,7 @@ pub mod TakenAnswers
 pub mod TakenMessages
 pub mod TellsKept
 pub mod Tokens
+pub mod TokensOnWay
 pub mod UpEnds
 pub mod Verdicts
 pub mod Ways

@@ -166,17 +166,17 @@ module _ (size : ℕ) (x : Side) (place : Place) (token : ℕ) where
           (λ rest e c. (spelled size o.token m.snapshot, e, inr (t, c))) (λ rest e c. ((spelled size o.token m.snapshot, e, inr (t, c)), e)) (λ rest e c. ((spelled size o.token m.snapshot, e, inr (t, c)), e))
 
 -- which posts of a batch are on a link
-pub each-batch : (P : Post → Type 0) (size : ℕ) (x : Side) (key : ℕ) (o : Offer) (m : Sent) → ((address len : ℕ) → P (Write x m.link key address len)) → ((n : CdcMessage) → P (Cdc x m.link n)) → EachPost P (cdc_posts size x key o m)
+pub each-batch : (P : Post → Type 0) (size : ℕ) (x : Side) (key : ℕ) (o : Offer) (m : Sent) → ((address len : ℕ) → P (Write x m.link key address len)) → ((n : CdcMessage) → n.token ≡ o.token → P (Cdc x m.link n)) → EachPost P (cdc_posts size x key o m)
 each-batch P size x key o m w c = by m.check
   where
-    of-writes : (a b : Bool) (p q r : Post) (n : CdcMessage) → P p → P q → P r → EachPost P ((if a then [] else if b then p ∷ [] else q ∷ r ∷ []) ++ Cdc x m.link n ∷ [])
-    of-writes true b p q r n i j k = (c n, tt)
-    of-writes false true p q r n i j k = (i, (c n, tt))
-    of-writes false false p q r n i j k = (j, (k, (c n, tt)))
+    of-writes : (a b : Bool) (p q r : Post) (n : CdcMessage) → n.token ≡ o.token → P p → P q → P r → EachPost P ((if a then [] else if b then p ∷ [] else q ∷ r ∷ []) ++ Cdc x m.link n ∷ [])
+    of-writes true b p q r n t i j k = (c n t, tt)
+    of-writes false true p q r n t i j k = (i, (c n t, tt))
+    of-writes false false p q r n t i j k = (j, (k, (c n t, tt)))
 
     by : (b : Bool) → EachPost P (if b then Cdc x m.link (validation size o.token m.snapshot) ∷ [] else writes size x m.link key (offered_place o) m.from m.snapshot.told ++ Cdc x m.link (spelled size o.token m.snapshot) ∷ [])
-    by true = (c (validation size o.token m.snapshot), tt)
-    by false = of-writes (m.from == m.snapshot.told) (nat_le (m.from % size + (m.snapshot.told - m.from)) size) _ _ _ (spelled size o.token m.snapshot) (w _ _) (w _ _) (w _ _)
+    by true = (c (validation size o.token m.snapshot) refl, tt)
+    by false = of-writes (m.from == m.snapshot.told) (nat_le (m.from % size + (m.snapshot.told - m.from)) size) _ _ _ (spelled size o.token m.snapshot) refl (w _ _) (w _ _) (w _ _)
 
 pub filter-all : (test : Post → Bool) (ps : List Post) → EachPost (λ p. test p ≡ true) ps → filter test ps ≡ ps
 filter-all test [] e = refl

@@ -24,7 +24,7 @@ find-alike f g [] a = refl
 find-alike f g (l ∷ ls) a = ap (λ b. cond b (Some l) (find f ls)) a.0 ∙ ap (λ (o : Option Lending). cond (g l) (Some l) o) (find-alike f g ls a.1)
 
 -- what is found is of the list, and passes the test
-found-is : (P : Lending → Type 0) (f : Lending → Bool) (ls : List Lending) (l : Lending) → EachLending P ls → find f ls ≡ Some l → P l × (f l ≡ true)
+pub found-is : (P : Lending → Type 0) (f : Lending → Bool) (ls : List Lending) (l : Lending) → EachLending P ls → find f ls ≡ Some l → P l × (f l ≡ true)
 found-is P f [] l a e = absurd (let wrong : None ≡ Some l = e in cc)
 found-is P f (k ∷ ls) l a e = by_test (f k) refl e (found-is P f ls l a.1)
   where

@@ -12,6 +12,8 @@ use Rattle.pipe_model.specs.declared.post.Post.TheVariants.{Write, Cdc, Llc, Clc
 use Rattle.pipe_model.specs.declared.entry.Entry.{Entry}
 use Rattle.pipe_model.specs.declared.sent.Sent.{Sent}
 use Rattle.pipe_model.specs.Words.{element_size, elements_of}
+use Rattle.pipe_model.specs.History.{Offered}
+use Rattle.pipe_model.specs.Posts.{offered_place}
 use Rattle.pipe_model.specs.Wires.{unlanded}
 use Rattle.pipe_model.specs.Ends.{Half, to_land}
 use Rattle.pipe_model.specs.Pipe.{half}
@@ -96,3 +98,18 @@ Carries size x place token reach (Cdc from link m ∷ posts) ms last =
     ⊎ (((token == m.token) ≡ false) × Carries size x place token reach posts ms last))
 Carries size x place token reach (Llc from link m ∷ posts) ms last = Carries size x place token reach posts ms last
 Carries size x place token reach (Clc from s link m ∷ posts) ms last = Carries size x place token reach posts ms last
+
+-- how far the bytes of the end of a socket at a side have landed: from there on the wire carries them; the peer was told no more;
+-- and those that its peer has not read stand in the element that the peer offered
+pub record Reaches (setup : Setup) (payload : List ℕ) (x : Side) (s : ℕ) (o : Offered) (past : List Entry) : Type 0 where
+  pub reach : ℕ
+  pub carries : Carries (element_size setup) x (offered_place o.offer) o.offer.token reach (waiting_posts x past) (to_land (half x (pipe_of setup payload 1 s past))) (half x (pipe_of setup payload 1 s past)).last.told
+  pub told : (half (other x) (pipe_of setup payload 1 s past)).taken.told ≤ reach
+  pub stand : Stand (element_size setup) (offered_place o.offer) (half (other x) (pipe_of setup payload 1 s past)).rd reach (half x (pipe_of setup payload 1 s past)).out (peer_buffer setup payload x past)
+
+-- that a buffer is the one RMB of a side
+pub record IsRmb (setup : Setup) (y : Side) (b : Buffer) : Type 0 where
+  pub whole : IsWhole b
+  pub rmb : b.rmb ≡ 1
+  pub size : b.size ≡ element_size setup
+  pub elements : b.elements ≡ elements_of setup y

@@ -6,15 +6,20 @@
 //! nothing then. All memory is taken by [`World::new`].
 //!
 //! This first world has one socket and one link. Opening it establishes both ends at once; a post
-//! completes as it lands.
+//! completes as it lands. Beside it stand laws of the histories that two peers make over one link, by
+//! the definitions of a lawful history.
 #![tactic(auto)]
 
+mod byte_laws;
 mod connection;
 mod lawful_laws;
 mod laws;
 mod wire_laws;
 mod world;
 
+pub use byte_laws::{
+    a_buffer_is_the_rmb, the_bytes_of_an_end_reach, told_bytes_stand_in_the_element,
+};
 pub use lawful_laws::{
     a_lack_is_named_only_where_it_holds, a_played_history_is_lawful, each_write_lands_home,
     each_write_under_way_is_directed, no_element_is_lent_again_too_early, no_end_is_reset,
