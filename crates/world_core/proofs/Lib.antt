@@ -26,6 +26,7 @@ pub mod SameManagers
 pub mod KeptManagers
 pub mod PipeSteps
 pub mod QuietEntries
+pub mod EstablishedManagers
 pub mod ConfirmEntries
 pub mod ConfirmManagers
 pub mod AcceptEntries
