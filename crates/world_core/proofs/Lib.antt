@@ -26,6 +26,8 @@ pub mod SameManagers
 pub mod KeptManagers
 pub mod PipeSteps
 pub mod QuietEntries
+pub mod QuitManagers
+pub mod EndedRows
 pub mod EstablishedManagers
 pub mod ConfirmEntries
 pub mod ConfirmManagers
