@@ -191,8 +191,8 @@ module _ {s : ℕ} {first : Bool} {from to : Stage} (setup : Setup) (one : IsOne
           reply = refl;
           posts = ap (λ (q : Offer). ClcPost B s (Some the_link) (AcceptMessage q) ∷ []) (sym offer-same) ∙ ap (λ link. ClcPost B s (Some link) (AcceptMessage (offer_for first link here)) ∷ []) (sym names);
           own = accepts-own setup payload regions past c actor o i.first_is world.link (link_then actor) lendings_are known one.rmbs_b free-is i.rmb refl none-b none-a down-b (no-loss actor) open-items (no-items actor) fresh_end
-            ∙ (ap (λ m. with_hand s (record (hand_at s here) { state = WaitsConfirm }) (starts s the_link m)) desk1-is
-            ∙ ap (λ link. with_hand s (record (hand_at s here) { state = WaitsConfirm }) (accepts s first link here)) (sym names));
+              ∙ (ap (λ m. with_hand s (record (hand_at s here) { state = WaitsConfirm }) (starts s the_link m)) desk1-is
+              ∙ ap (λ link. with_hand s (record (hand_at s here) { state = WaitsConfirm }) (accepts s first link here)) (sym names));
         })
         (accepts-theirs setup payload regions past c actor o i.first_is world.link (link_then actor) lendings_are known one.rmbs_b free-is i.rmb refl none-b none-a down-b (no-loss actor) open-items (no-items actor) fresh_end)
         (accepts-lendings setup payload regions past c actor o i.first_is world.link (link_then actor) lendings_are known one.rmbs_b free-is i.rmb refl none-b none-a down-b (no-loss actor) open-items (no-items actor) fresh_end)
@@ -218,7 +218,7 @@ module _ (setup : Setup) (one : IsOneLink setup) (payload : List ℕ) (regions :
       let l = world.link in
       accept-taken setup one payload regions past (begins_contact s) world lendings_are known place free_at fresh_end p len state at step
       (λ a. link-moves setup (accept_entry a s (new_offer setup payload B true the_link past)) past NoLink (Begun s)
-        (begins-link setup a s past (new_offer setup payload B true the_link past) world.link (new-is-offer setup payload B true NoLink past place world.link free_at)) world.link)
+      (begins-link setup a s past (new_offer setup payload B true the_link past) world.link (new-is-offer setup payload B true NoLink past place world.link free_at)) world.link)
       (ap (λ link. accept_post setup payload s true link past ∷ []) (first-link setup past one.links world.link)) (desk-names world.link) actor n posts played shaken
 
   -- in later contact
@@ -228,7 +228,7 @@ module _ (setup : Setup) (one : IsOneLink setup) (payload : List ℕ) (regions :
       let l = world.link in
       accept-taken setup one payload regions past (joins_group s t) world lendings_are known place free_at fresh_end p len state at step
       (λ a. link-moves setup (accept_entry a s (new_offer setup payload B false the_link past)) past (LiveAtBoth t) (LiveAtBoth t)
-        (link-still setup a s A (Sent AcceptSent) (ClcPost B s (Some the_link) (AcceptMessage (new_offer setup payload B false the_link past)) ∷ []) past (LiveAtBoth t) world.link
-          (still-accept s past (fabric_at (LiveAtBoth t)) (new_offer setup payload B false the_link past) refl)) world.link)
+      (link-still setup a s A (Sent AcceptSent) (ClcPost B s (Some the_link) (AcceptMessage (new_offer setup payload B false the_link past)) ∷ []) past (LiveAtBoth t) world.link
+      (still-accept s past (fabric_at (LiveAtBoth t)) (new_offer setup payload B false the_link past) refl)) world.link)
       (ap (λ link. accept_post setup payload s false link past ∷ []) (later-link setup payload past t world.link))
       (ap (λ f. lightest (links_in_use (records_of setup payload B past)) (live_links (peer B f).table)) l.fabric_is) actor n posts played shaken

@@ -176,8 +176,8 @@ module _ {s : ℕ} {first : Bool} {from to : Stage} (setup : Setup) (payload : L
       ∙ (desk-begins c setup (map (λ k. pair_on B k past) (up_to most_slots)) (serial B past) (rows_of setup payload B past) (rows_of setup payload B (e ∷ past)) (first_on B past)
       ∙ (ap (λ (d : Desk). let k : Desk = record (if first then begins_group s the_link 1 d else d) { rows = rows_of setup payload B (e ∷ past) } in k) (sym (stage-desk setup payload B from past was))
       ∙ ap (λ (rs : List Row). let k : Desk = record desk1 { rows = rs } in k)
-        (rows-b ∙ (ap (λ (rs : List Row). map (changes_at (offered_place o) (lends_row s)) rs) (sym (rows-stay first s (desk_of setup payload B past)))
-        ∙ ap (λ el. map (changes_at (place_of el) (lends_row s)) desk1.rows) (sym next-element))))))))
+      (rows-b ∙ (ap (λ (rs : List Row). map (changes_at (offered_place o) (lends_row s)) rs) (sym (rows-stay first s (desk_of setup payload B past)))
+      ∙ ap (λ el. map (changes_at (place_of el) (lends_row s)) desk1.rows) (sym next-element))))))))
 
   desk-a : desk_of setup payload A (e ∷ past) ≡ desk_of setup payload A past
   desk-a =
@@ -292,11 +292,11 @@ module _ {s : ℕ} {first : Bool} {from to : Stage} (setup : Setup) (payload : L
       by : (b : Bool) → (t == s) ≡ b → conn_of setup payload A (e ∷ past) t ≡ conn_of setup payload A past t
       by true i = subst (λ k. conn_of setup payload A (e ∷ past) k ≡ conn_of setup payload A past k) (sym (eqb-true t s i)) (no-conn (e ∷ past) (ap (λ (ls : List Lending). lending_on s ls) lent-a ∙ none-lent) ∙ sym (no-conn past none-lent))
       by false d = same-conn setup payload A (e ∷ past) past t (record {
-          up = refl;
-          link = ap (λ q. option_map (λ (p : Offered). p.link) q) (offer-else t d);
-          heard = ap (λ st. if awaits_confirm st then None else option_map (λ (p : Offered). p.offer) (offered B t (e ∷ past))) (state-a t)
+        up = refl;
+        link = ap (λ q. option_map (λ (p : Offered). p.link) q) (offer-else t d);
+        heard = ap (λ st. if awaits_confirm st then None else option_map (λ (p : Offered). p.offer) (offered B t (e ∷ past))) (state-a t)
             ∙ ap (λ q. if awaits_confirm (end_state A t past) then None else option_map (λ (p : Offered). p.offer) q) (offer-else t d);
-        }) refl lent-a (end-else A t (group-else t d))
+      }) refl lent-a (end-else A t (group-else t d))
 
   spare-b : length (free_places setup payload B (e ∷ past)) ≡ length (free_places setup payload B past) - 1
   spare-b = ap (λ (ls : List Lending). length (filter (is_free (lent_places ls)) (all_places (rmbs_of setup B) (elements_of setup B)))) lent-b ∙ spare-less setup payload B past one (offered_place o) free

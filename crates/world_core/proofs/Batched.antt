@@ -170,7 +170,7 @@ module _ (link : LinkId) (x : Side) where
         ap (λ ps. (Left ++ filter completes_later (take (landing_now link x e past) (Posts (unlanded link x past)))) ++ filter completes_later ps) new-unlanded ∙
         ap (λ ps. (Left ++ filter completes_later (take (landing_now link x e past) (Posts (unlanded link x past)))) ++ ps)
         (filter-append completes_later (drop (leaving link x e past) (Posts (unlanded link x past))) (filter (is_on link x) e.posts) ∙
-            ap (λ ps. filter completes_later (drop (leaving link x e past) (Posts (unlanded link x past))) ++ ps) (filter-twice (is_on link x) completes_later e.posts)) ∙
+        ap (λ ps. filter completes_later (drop (leaving link x e past) (Posts (unlanded link x past))) ++ ps) (filter-twice (is_on link x) completes_later e.posts)) ∙
         ap (λ n. (Left ++ filter completes_later (take n (Posts (unlanded link x past)))) ++ (filter completes_later (drop (leaving link x e past) (Posts (unlanded link x past))) ++ ours link x e.posts)) same ∙
         rejoin Left (filter completes_later (take (leaving link x e past) (Posts (unlanded link x past)))) (filter completes_later (drop (leaving link x e past) (Posts (unlanded link x past)))) (ours link x e.posts) ∙
         ap (λ ps. (Left ++ ps) ++ ours link x e.posts) (filter-parts completes_later (leaving link x e past) (Posts (unlanded link x past)))

@@ -196,11 +196,11 @@ module _ (setup : Setup) (one : IsOneLink setup) (payload : List ℕ) (regions :
         record {
           taken = ap (λ st. step_told (named_group (AcceptMessage ob)) (AcceptMessage ob) st) step-is;
           posts =
-            ap (λ (q : Offer). ClcPost A s (Some the_link) (ConfirmMessage q) ∷ []) (sym offer-same)
-            ∙ ap (λ st. verdict_posts s (AcceptMessage ob) the_link (paths_of past) here st ++ verdict_risen s (AcceptMessage ob) the_link here st) step-is;
+              ap (λ (q : Offer). ClcPost A s (Some the_link) (ConfirmMessage q) ∷ []) (sym offer-same)
+              ∙ ap (λ st. verdict_posts s (AcceptMessage ob) the_link (paths_of past) here st ++ verdict_risen s (AcceptMessage ob) the_link here st) step-is;
           own = confirms-own setup payload regions past s actor o ob i.first_is world.link (link-then actor) lendings_are known one.links one.rmbs_a free-is i.rmb refl b.key b.rmb theirs k.none_a k.down k.waits (no-loss actor) open-items (no-items actor) fresh_end
-            ∙ (ap (λ n. with_hand s (record (hand_at s here) { state = WaitsLink }) (hears s ob (starts s the_link (record here { desk = learns_offer the_link ob (makes_link the_link (begins_group s the_link n (desk_of setup payload A past))) })))) (sym rmb-next)
-            ∙ ap (λ st. with_hand s (record (hand_at s here) { state = after_step st (AcceptMessage ob) (state_at s here) }) (by_verdict s (AcceptMessage ob) the_link (paths_of past) here st)) step-is);
+              ∙ (ap (λ n. with_hand s (record (hand_at s here) { state = WaitsLink }) (hears s ob (starts s the_link (record here { desk = learns_offer the_link ob (makes_link the_link (begins_group s the_link n (desk_of setup payload A past))) })))) (sym rmb-next)
+              ∙ ap (λ st. with_hand s (record (hand_at s here) { state = after_step st (AcceptMessage ob) (state_at s here) }) (by_verdict s (AcceptMessage ob) the_link (paths_of past) here st)) step-is);
           theirs = confirms-theirs setup payload regions past s actor o ob i.first_is world.link (link-then actor) lendings_are known one.links one.rmbs_a free-is i.rmb refl b.key b.rmb theirs k.none_a k.down k.waits (no-loss actor) open-items (no-items actor) fresh_end;
           lendings_are = confirms-lendings setup payload regions past s actor o ob i.first_is world.link (link-then actor) lendings_are known one.links one.rmbs_a free-is i.rmb refl b.key b.rmb theirs k.none_a k.down k.waits (no-loss actor) open-items (no-items actor) fresh_end;
         }

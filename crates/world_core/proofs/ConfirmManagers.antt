@@ -283,7 +283,7 @@ module _ (setup : Setup) (payload : List ℕ) (regions : List Buffer) (past : Li
   aims-new =
       sym (set-set conns0 s (Some new_conn) (Some aimed_conn))
       ∙ ap (λ q. slice_set (slice_set conns0 s (Some new_conn)) s (option_map (λ (k : Connection Half). let c : Connection Half = record k { route = record k.route { peer = Some ob } } in c) q))
-        (sym (get-set conns0 s (Some new_conn) None (subst (λ n. s < n) (sym (sockets-long (conn_of setup payload A past) setup.sockets)) known)))
+      (sym (get-set conns0 s (Some new_conn) None (subst (λ n. s < n) (sym (sockets-long (conn_of setup payload A past) setup.sockets)) known)))
 
   -- A's manager
   pub confirms-own : manager_of setup payload regions A (e ∷ past) ≡ with_hand s (record (hand_at s here) { state = WaitsLink }) (hears s ob (starts s the_link (record here { desk = desk1 })))

@@ -269,7 +269,7 @@ module _ (setup : Setup) (payload : List ℕ) (regions : List Buffer) (past : Li
       up = up;
       link = ap (λ q. option_map (λ (p : Offered). p.link) q) (offer-stays e past plain-now B t);
       heard = ap (λ st. if awaits_confirm st then None else option_map (λ (p : Offered). p.offer) (offered (other y) t (e ∷ past))) same
-        ∙ ap (λ q. if awaits_confirm (end_state y t past) then None else option_map (λ (p : Offered). p.offer) q) (offer-stays e past plain-now (other y) t);
+          ∙ ap (λ q. if awaits_confirm (end_state y t past) then None else option_map (λ (p : Offered). p.offer) q) (offer-stays e past plain-now (other y) t);
     }
 
     heard-s : heard_on B s (e ∷ past) ≡ Some o
@@ -306,7 +306,7 @@ module _ (setup : Setup) (payload : List ℕ) (regions : List Buffer) (past : Li
         (same-desk setup payload B (e ∷ past) past (desk-now B))
         (sym (set-socket (hand_of B past) (hand_of B (e ∷ past)) setup.sockets s (λ t d. hand-by B t (state-else t d))) ∙ ap (λ h. slice_set (each_socket (hand_of B past) setup.sockets) s h) hand-s)
         (sym (set-socket (conn_of setup payload B past) (conn_of setup payload B (e ∷ past)) setup.sockets s
-          (λ t d. same-conn setup payload B (e ∷ past) past t (route-by B t (up-b t d) (state-else t d)) (lendings-stay e past plain-now B) (lent-now B) (end-by B t [] (items-else actor posts (group_on t past) t d))))
+        (λ t d. same-conn setup payload B (e ∷ past) past t (route-by B t (up-b t d) (state-else t d)) (lendings-stay e past plain-now B) (lent-now B) (end-by B t [] (items-else actor posts (group_on t past) t d))))
         ∙ (ap (λ (c : Option (Connection Half)). slice_set conns0 s c) conn-s ∙ rises-new))
         (ap (λ (ls : List Lending). length ls) (lendings-stay e past plain-now B)) (same-spare setup payload B (e ∷ past) past (lent-now B))
 

@@ -141,7 +141,7 @@ module _ (setup : Setup) (payload : List ℕ) (regions : List Buffer) (stage : S
     up = up-same y t;
     link = ap (λ o. option_map (λ (p : Offered). p.link) o) (offer-stays e past plain-now B t);
     heard = ap (λ st. if awaits_confirm st then None else option_map (λ (p : Offered). p.offer) (offered (other y) t (e ∷ past))) same
-      ∙ ap (λ o. if awaits_confirm (end_state y t past) then None else option_map (λ (p : Offered). p.offer) o) (offer-stays e past plain-now (other y) t);
+        ∙ ap (λ o. if awaits_confirm (end_state y t past) then None else option_map (λ (p : Offered). p.offer) o) (offer-stays e past plain-now (other y) t);
   }
 
   group-on-same : (t : ℕ) → group_on t (e ∷ past) ≡ group_on t past
@@ -205,18 +205,18 @@ module _ (setup : Setup) (payload : List ℕ) (regions : List Buffer) (stage : S
   pub falls : IsFallen setup payload regions x s front e past
   falls = record {
     own = by-parts setup payload regions x (e ∷ past) (desk_of setup payload x past)
-      (slice_set (each_socket (hand_of x past) setup.sockets) s (record (hand_at s (manager_of setup payload regions x past)) { state = HasFallen }))
-      (each_socket (conn_of setup payload x past) setup.sockets) (length (lendings x past)) (length (free_places setup payload x past))
-      (same-desk setup payload x (e ∷ past) past desk-own)
-      (sym (set-socket (hand_of x past) (hand_of x (e ∷ past)) setup.sockets s (λ t d. hand-by x t (state-else t d))) ∙ ap (λ h. slice_set (each_socket (hand_of x past) setup.sockets) s h) hand-here)
-      (same-sockets (conn_of setup payload x (e ∷ past)) (conn_of setup payload x past) conn-own setup.sockets)
-      (ap (λ (ls : List Lending). length ls) (lendings-stay e past plain-now x)) (same-spare setup payload x (e ∷ past) past lent-own);
+        (slice_set (each_socket (hand_of x past) setup.sockets) s (record (hand_at s (manager_of setup payload regions x past)) { state = HasFallen }))
+        (each_socket (conn_of setup payload x past) setup.sockets) (length (lendings x past)) (length (free_places setup payload x past))
+        (same-desk setup payload x (e ∷ past) past desk-own)
+        (sym (set-socket (hand_of x past) (hand_of x (e ∷ past)) setup.sockets s (λ t d. hand-by x t (state-else t d))) ∙ ap (λ h. slice_set (each_socket (hand_of x past) setup.sockets) s h) hand-here)
+        (same-sockets (conn_of setup payload x (e ∷ past)) (conn_of setup payload x past) conn-own setup.sockets)
+        (ap (λ (ls : List Lending). length ls) (lendings-stay e past plain-now x)) (same-spare setup payload x (e ∷ past) past lent-own);
     theirs = by-parts setup payload regions (other x) (e ∷ past) (desk_of setup payload (other x) past) (each_socket (hand_of (other x) past) setup.sockets)
-      (each_socket (conn_of setup payload (other x) past) setup.sockets) (length (lendings (other x) past)) (length (free_places setup payload (other x) past))
-      (same-desk setup payload (other x) (e ∷ past) past desk-theirs)
-      (same-sockets (hand_of (other x) (e ∷ past)) (hand_of (other x) past) (λ t. hand-by (other x) t (state-theirs t)) setup.sockets)
-      (same-sockets (conn_of setup payload (other x) (e ∷ past)) (conn_of setup payload (other x) past) conn-theirs setup.sockets)
-      (ap (λ (ls : List Lending). length ls) (lendings-stay e past plain-now (other x))) (same-spare setup payload (other x) (e ∷ past) past lent-theirs);
+        (each_socket (conn_of setup payload (other x) past) setup.sockets) (length (lendings (other x) past)) (length (free_places setup payload (other x) past))
+        (same-desk setup payload (other x) (e ∷ past) past desk-theirs)
+        (same-sockets (hand_of (other x) (e ∷ past)) (hand_of (other x) past) (λ t. hand-by (other x) t (state-theirs t)) setup.sockets)
+        (same-sockets (conn_of setup payload (other x) (e ∷ past)) (conn_of setup payload (other x) past) conn-theirs setup.sockets)
+        (ap (λ (ls : List Lending). length ls) (lendings-stay e past plain-now (other x))) (same-spare setup payload (other x) (e ∷ past) past lent-theirs);
     posts_are = made-posts;
     lendings_are = lendings-kept setup payload e past lendings_are both-lent (offer-stays e past plain-now) keeps-same;
   }

@@ -35,10 +35,10 @@ pub lendings-kept : (setup : Setup) (payload : List ℕ) (e : Entry) (past : Lis
     → ((x : Side) (s : ℕ) → offered x s (e ∷ past) ≡ offered x s past) → ((x : Side) (s : ℕ) → keeps_element (end_state x s (e ∷ past)) ≡ keeps_element (end_state x s past)) → HasLendings setup payload (e ∷ past)
 lendings-kept setup payload e past h lent_same offers keeps = record {
   each = λ x s.
-    ap (λ (ls : List Lending). lending_on s ls) (lent_same x)
-    ∙ (h.each x s
-    ∙ (ap (λ b. if b then option_map (λ (o : Offered). lends_by s o.link o.offer) (offered x s past) else None) (sym (keeps x s))
-    ∙ ap (λ o. if keeps_element (end_state x s (e ∷ past)) then option_map (λ (o : Offered). lends_by s o.link o.offer) o else None) (sym (offers x s))));
+      ap (λ (ls : List Lending). lending_on s ls) (lent_same x)
+      ∙ (h.each x s
+      ∙ (ap (λ b. if b then option_map (λ (o : Offered). lends_by s o.link o.offer) (offered x s past) else None) (sym (keeps x s))
+      ∙ ap (λ o. if keeps_element (end_state x s (e ∷ past)) then option_map (λ (o : Offered). lends_by s o.link o.offer) o else None) (sym (offers x s))));
 }
 
 -- so each end that is up has one

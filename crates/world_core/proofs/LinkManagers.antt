@@ -145,9 +145,9 @@ module _ {x : Side} {from to : Stage} {reply : Bool} (setup : Setup) (payload : 
   own-hands l =
       sym (set-socket (hand_of x past) (hand_of x (e ∷ past)) setup.sockets (first_on x past) (λ s d. hand-by x s (state-by x s (up-else s d))))
       ∙ ap (λ h. slice_set (each_socket (hand_of x past) setup.sockets) (first_on x past) h)
-        (ap (λ b. let h : Hand = record { raw = b; state = end_state x (first_on x past) (e ∷ past) } in h) (unraw (first_on x past))
-        ∙ (ap (λ a. let h : Hand = record { raw = is_raw (first_on x past) past; state = a } in h) state-now
-        ∙ ap (λ (h : Hand). let k : Hand = record h { state = IsUp } in k) (sym (at-socket (hand_of x past) setup.sockets (first_on x past) no_hand l))))
+      (ap (λ b. let h : Hand = record { raw = b; state = end_state x (first_on x past) (e ∷ past) } in h) (unraw (first_on x past))
+      ∙ (ap (λ a. let h : Hand = record { raw = is_raw (first_on x past) past; state = a } in h) state-now
+      ∙ ap (λ (h : Hand). let k : Hand = record h { state = IsUp } in k) (sym (at-socket (hand_of x past) setup.sockets (first_on x past) no_hand l))))
 
   pub their-hands : each_socket (hand_of (other x) (e ∷ past)) setup.sockets ≡ each_socket (hand_of (other x) past) setup.sockets
   their-hands = same-sockets (hand_of (other x) (e ∷ past)) (hand_of (other x) past) (λ s. hand-by (other x) s (state-by (other x) s (up-other s))) setup.sockets

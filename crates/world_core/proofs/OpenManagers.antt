@@ -146,7 +146,7 @@ module _ (setup : Setup) (payload : List ℕ) (regions : List Buffer) (stage : S
     up = up-same x t;
     link = ap (λ o. option_map (λ (p : Offered). p.link) o) (offer-stays e past plain-now B t);
     heard = ap (λ b. if b then None else option_map (λ (p : Offered). p.offer) (offered (other x) t (e ∷ past))) (waits-same x t)
-      ∙ ap (λ o. if awaits_confirm (end_state x t past) then None else option_map (λ (p : Offered). p.offer) o) (offer-stays e past plain-now (other x) t);
+        ∙ ap (λ o. if awaits_confirm (end_state x t past) then None else option_map (λ (p : Offered). p.offer) o) (offer-stays e past plain-now (other x) t);
   }
 
   hand-else : (x : Side) (t : ℕ) → (t == s) ≡ false → hand_of x (e ∷ past) t ≡ hand_of x past t
@@ -158,13 +158,13 @@ module _ (setup : Setup) (payload : List ℕ) (regions : List Buffer) (stage : S
   pub opens-socket : IsSet setup payload regions s state front e past
   opens-socket = record {
     both = λ x. by-parts setup payload regions x (e ∷ past) (desk_of setup payload x past) (slice_set (each_socket (hand_of x past) setup.sockets) s (record { raw = false; state = state x }))
-      (each_socket (conn_of setup payload x past) setup.sockets) (length (lendings x past)) (length (free_places setup payload x past))
-      (same-desk setup payload x (e ∷ past) past (desk-now x))
-      (sym (set-socket (hand_of x past) (hand_of x (e ∷ past)) setup.sockets s (hand-else x)) ∙ ap (λ h. slice_set (each_socket (hand_of x past) setup.sockets) s h) (hand-at x))
-      (same-sockets (conn_of setup payload x (e ∷ past)) (conn_of setup payload x past) (λ t. same-conn setup payload x (e ∷ past) past t (route-same x t) (lendings-stay e past plain-now x) (lent-now x)
+        (each_socket (conn_of setup payload x past) setup.sockets) (length (lendings x past)) (length (free_places setup payload x past))
+        (same-desk setup payload x (e ∷ past) past (desk-now x))
+        (sym (set-socket (hand_of x past) (hand_of x (e ∷ past)) setup.sockets s (hand-else x)) ∙ ap (λ h. slice_set (each_socket (hand_of x past) setup.sockets) s h) (hand-at x))
+        (same-sockets (conn_of setup payload x (e ∷ past)) (conn_of setup payload x past) (λ t. same-conn setup payload x (e ∷ past) past t (route-same x t) (lendings-stay e past plain-now x) (lent-now x)
         (end-stays setup payload past e (no-items actor posts) x t (ap (λ o. unwrap_or (option_map (λ (link : LinkId). link.group) (option_map (λ (p : Offered). p.link) o)) 0) (offer-stays e past plain-now B t)))) setup.sockets)
-      (ap (λ (ls : List Lending). length ls) (lendings-stay e past plain-now x))
-      (same-spare setup payload x (e ∷ past) past (lent-now x));
+        (ap (λ (ls : List Lending). length ls) (lendings-stay e past plain-now x))
+        (same-spare setup payload x (e ∷ past) past (lent-now x));
     posts_are = made-posts;
   }
 

@@ -210,11 +210,11 @@ module _ (setup : Setup) (payload : List ℕ) (stage : Stage) (e : Entry) (past 
     raw = v.raw s;
     state = state-now;
     route = record {
-    up = v.up x s;
-    link = ap (λ o. option_map (λ (p : Offered). p.link) o) (v.offer B s);
-    heard = ap (λ a. if awaits_confirm a then None else option_map (λ (p : Offered). p.offer) (offered (other x) s (e ∷ past))) state-now
-        ∙ ap (λ o. if awaits_confirm (end_state x s past) then None else option_map (λ (p : Offered). p.offer) o) (v.offer (other x) s);
-  };
+      up = v.up x s;
+      link = ap (λ o. option_map (λ (p : Offered). p.link) o) (v.offer B s);
+      heard = ap (λ a. if awaits_confirm a then None else option_map (λ (p : Offered). p.offer) (offered (other x) s (e ∷ past))) state-now
+          ∙ ap (λ o. if awaits_confirm (end_state x s past) then None else option_map (λ (p : Offered). p.offer) o) (v.offer (other x) s);
+    };
   }
     where
       state-now : end_state x s (e ∷ past) ≡ end_state x s past

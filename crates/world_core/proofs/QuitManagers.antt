@@ -160,7 +160,7 @@ module _ (setup : Setup) (payload : List ℕ) (regions : List Buffer) (stage : S
     up = up;
     link = ap (λ q. option_map (λ (p : Offered). p.link) q) (offer-stays e past plain-now B t);
     heard = ap (λ st. if awaits_confirm st then None else option_map (λ (p : Offered). p.offer) (offered (other y) t (e ∷ past))) same
-      ∙ ap (λ q. if awaits_confirm (end_state y t past) then None else option_map (λ (p : Offered). p.offer) q) (offer-stays e past plain-now (other y) t);
+        ∙ ap (λ q. if awaits_confirm (end_state y t past) then None else option_map (λ (p : Offered). p.offer) q) (offer-stays e past plain-now (other y) t);
   }
 
   end-same : (y : Side) (t : ℕ) → end_of setup payload y t (e ∷ past) ≡ end_of setup payload y t past

@@ -144,7 +144,7 @@ module _ (setup : Setup) (payload : List ℕ) (regions : List Buffer) (past : Li
     up = up-same y t;
     link = ap (λ o. option_map (λ (p : Offered). p.link) o) (offer-stays e past plain-now B t);
     heard = ap (λ st. if awaits_confirm st then None else option_map (λ (p : Offered). p.offer) (offered (other y) t (e ∷ past))) same
-      ∙ ap (λ o. if awaits_confirm (end_state y t past) then None else option_map (λ (p : Offered). p.offer) o) (offer-stays e past plain-now (other y) t);
+        ∙ ap (λ o. if awaits_confirm (end_state y t past) then None else option_map (λ (p : Offered). p.offer) o) (offer-stays e past plain-now (other y) t);
   }
 
   end-same : (y : Side) (t : ℕ) → end_of setup payload y t (e ∷ past) ≡ end_of setup payload y t past

@@ -81,11 +81,11 @@ module _ {x : Side} {from to : Stage} {reply : Bool} (setup : Setup) (payload : 
   conn-risen =
       ap (λ o. conn_from (first_on x past) o (is_up x (first_on x past) (e ∷ past)) (lendings x (e ∷ past)) (heard_on x (first_on x past) (e ∷ past)) (end_of setup payload x (first_on x past) (e ∷ past)) (lent setup payload x (e ∷ past))) named-now
       ∙ (ap (λ b. conn_from (first_on x past) (named_link (first_on x past) past) b (lendings x (e ∷ past)) (heard_on x (first_on x past) (e ∷ past)) (end_of setup payload x (first_on x past) (e ∷ past)) (lent setup payload x (e ∷ past)))
-        (is-up-now setup payload regions e past c world now i plain n played shaken lendings_are stays unraw)
+      (is-up-now setup payload regions e past c world now i plain n played shaken lendings_are stays unraw)
       ∙ (ap (λ (ls : List Lending). conn_from (first_on x past) (named_link (first_on x past) past) true ls (heard_on x (first_on x past) (e ∷ past)) (end_of setup payload x (first_on x past) (e ∷ past)) (lent setup payload x (e ∷ past))) (lendings-stay e past plain x)
       ∙ (ap (λ (o : Option Offer). conn_from (first_on x past) (named_link (first_on x past) past) true (lendings x past) o (end_of setup payload x (first_on x past) (e ∷ past)) (lent setup payload x (e ∷ past))) heard-now
       ∙ (ap (λ h. conn_from (first_on x past) (named_link (first_on x past) past) true (lendings x past) (heard_on x (first_on x past) past) h (lent setup payload x (e ∷ past)))
-        (end-risen setup payload regions e past c world now i plain n played shaken lendings_are stays unraw)
+      (end-risen setup payload regions e past c world now i plain n played shaken lendings_are stays unraw)
       ∙ (ap (λ (ls : List Lending). conn_from (first_on x past) (named_link (first_on x past) past) true (lendings x past) (heard_on x (first_on x past) past) (settle setup.depth (comes_up the_link (meets_fate the_link LiveLink (end_of setup payload x (first_on x past) past)))) ls) (lent-same x)
       ∙ (risen-of (named_link (first_on x past) past) (lendings x past) (heard_on x (first_on x past) past) (end_of setup payload x (first_on x past) past) (lending_on (first_on x past) (lent setup payload x past)) named-is
       ∙ ap (λ b. option_map (rise setup.depth) (option_map hear (conn_from (first_on x past) (named_link (first_on x past) past) b (lendings x past) (heard_on x (first_on x past) past) (end_of setup payload x (first_on x past) past) (lent setup payload x past)))) (sym waits.down)))))))
@@ -127,9 +127,9 @@ module _ {x : Side} {from to : Stage} {reply : Bool} (setup : Setup) (payload : 
     up = up-other setup payload regions e past c world now i plain n played shaken lendings_are stays unraw (first_on x past);
     link = named-now;
     heard =
-      ap (λ st. if awaits_confirm st then None else option_map (λ (p : Offered). p.offer) (offered (other (other x)) (first_on x past) (e ∷ past)))
+        ap (λ st. if awaits_confirm st then None else option_map (λ (p : Offered). p.offer) (offered (other (other x)) (first_on x past) (e ∷ past)))
         (state-by setup payload regions e past c world now i plain n played shaken lendings_are stays unraw (other x) (first_on x past) (up-other setup payload regions e past c world now i plain n played shaken lendings_are stays unraw (first_on x past)))
-      ∙ ap (λ o. if awaits_confirm (end_state (other x) (first_on x past) past) then None else option_map (λ (p : Offered). p.offer) o) (offer-stays e past plain (other (other x)) (first_on x past));
+        ∙ ap (λ o. if awaits_confirm (end_state (other x) (first_on x past) past) then None else option_map (λ (p : Offered). p.offer) o) (offer-stays e past plain (other (other x)) (first_on x past));
   }
 
   conn-theirs : (s : ℕ) → conn_of setup payload (other x) (e ∷ past) s ≡ conn_of setup payload (other x) past s

@@ -229,8 +229,8 @@ lent-or-fell setup one payload (d ∷ older) n p x never s o e = by_offer (head 
     stays true h f found = inr (leaves-falls setup g.stage v.stage d older g.world v.world x s h)
     stays false h f found =
         let kept : not (returns setup payload x d older (lends_by s the_link o)) ≡ true =
-            ap (λ b. not (b || (loses_group_with x 1 d older || is_over_on setup payload x (lends_by s the_link o) (d ∷ older)))) h
-            ∙ (ap (λ b. not (b || is_over_on setup payload x (lends_by s the_link o) (d ∷ older))) (no-group-ends-with setup g.stage v.stage d older g.world v.world x 1) ∙ ap (λ b. not b) over) in
+        ap (λ b. not (b || (loses_group_with x 1 d older || is_over_on setup payload x (lends_by s the_link o) (d ∷ older)))) h
+        ∙ (ap (λ b. not (b || is_over_on setup payload x (lends_by s the_link o) (d ∷ older))) (no-group-ends-with setup g.stage v.stage d older g.world v.world x 1) ∙ ap (λ b. not b) over) in
         inl (found-new None f ∙ find-filter (λ l. l.s == s) (λ l. not (returns setup payload x d older l)) (lent setup payload x older) (lends_by s the_link o) found kept)
 
     by_offer : (q : Option Offered) → head (filter_map (offer_in x s) d.posts) ≡ q → option_or (head (filter_map (offer_in x s) d.posts)) (offered x s older) ≡ on_link o
@@ -239,6 +239,6 @@ lent-or-fell setup one payload (d ∷ older) n p x never s o e = by_offer (head 
     by_offer (Some q) f h rest = inl (found-new (Some q) f ∙ ap (λ (r : Option Offered). option_or (option_map (lends-for s) r) (find (λ l. l.s == s) (filter (λ l. not (returns setup payload x d older l)) (lent setup payload x older)))) (sym (ap (λ (r : Option Offered). option_or r (offered x s older)) f) ∙ h))
     by_offer None f h rest =
         elim (rest (sym (ap (λ (r : Option Offered). option_or r (offered x s older)) f) ∙ h)) [
-          inl found ↦ stays (leaves_handshake x s d.event d.reply) refl f found
-        | inr fallen ↦ inr (stays-fallen setup payload g.stage v.stage p.0 d older made g.world v.world x s fallen)
+          | inl found ↦ stays (leaves_handshake x s d.event d.reply) refl f found
+          | inr fallen ↦ inr (stays-fallen setup payload g.stage v.stage p.0 d older made g.world v.world x s fallen)
         ]

@@ -157,10 +157,10 @@ module _ (setup : Setup) (payload : List ℕ) (regions : List Buffer) (stage : S
       let facts = facts-of B w in
       let more = facts.1 in
       let f = falls setup payload regions stage past world lendings_are actor n s B (Declined lack) posts (ClcPost B s None (DeclineMessage (refusal B lack)) ∷ []) played shaken known facts.0 more.0 more.1
-          (λ q v r. ap (λ v. after v q.reply q.posts past (fabric past)) v ∙ ap (λ r. after (Clc s A) r q.posts past (fabric past)) r)
-          (by-side (λ y. (t : ℕ) → up_by y t (Clc s A) (Declined lack) past ≡ None) (λ t. refl) (λ t. refl)) (λ t st. refl) (λ t st. refl) (λ t d. ap (λ b. b && true) d) (λ t. refl)
-          (by-side (λ y. book_clc y (Clc s A) (Declined lack) past (book_of y past) ≡ book_of y past) refl refl)
-          (ap (λ f. front_posts setup payload B s past f) at ∙ ap (λ st. clc_posts setup payload B s (ProposalMessage p) past st) step) (refl, tt) in
+      (λ q v r. ap (λ v. after v q.reply q.posts past (fabric past)) v ∙ ap (λ r. after (Clc s A) r q.posts past (fabric past)) r)
+      (by-side (λ y. (t : ℕ) → up_by y t (Clc s A) (Declined lack) past ≡ None) (λ t. refl) (λ t. refl)) (λ t st. refl) (λ t st. refl) (λ t d. ap (λ b. b && true) d) (λ t. refl)
+      (by-side (λ y. book_clc y (Clc s A) (Declined lack) past (book_of y past) ≡ book_of y past) refl refl)
+      (ap (λ f. front_posts setup payload B s past f) at ∙ ap (λ st. clc_posts setup payload B s (ProposalMessage p) past st) step) (refl, tt) in
       taken-by setup payload regions B s (ProposalMessage p) link (Decline lack) (entry-of actor (Clc s A) (Declined lack) posts) past one known step
       (record { reply = refl; posts = f.posts_are; own = fallen-own B (entry-of actor (Clc s A) (Declined lack) posts) (ClcPost B s None (DeclineMessage (refusal B lack)) ∷ []) w f }) f.theirs f.lendings_are
 
@@ -173,10 +173,10 @@ module _ (setup : Setup) (payload : List ℕ) (regions : List Buffer) (stage : S
       let facts = facts-of A w in
       let more = facts.1 in
       let f = falls setup payload regions stage past world lendings_are actor n s A (Declined lack) posts (ClcPost A s None (DeclineMessage (refusal A lack)) ∷ []) played shaken known facts.0 more.0 more.1
-          (λ q v r. ap (λ v. after v q.reply q.posts past (fabric past)) v ∙ ap (λ r. after (Clc s B) r q.posts past (fabric past)) r)
-          (by-side (λ y. (t : ℕ) → up_by y t (Clc s B) (Declined lack) past ≡ None) (λ t. refl) (λ t. refl)) (λ t st. refl) (λ t st. refl) (λ t d. ap (λ b. b && true) d) (λ t. refl)
-          (by-side (λ y. book_clc y (Clc s B) (Declined lack) past (book_of y past) ≡ book_of y past) refl refl)
-          (ap (λ f. front_posts setup payload A s past f) at ∙ ap (λ st. clc_posts setup payload A s (AcceptMessage o) past st) step) (refl, tt) in
+      (λ q v r. ap (λ v. after v q.reply q.posts past (fabric past)) v ∙ ap (λ r. after (Clc s B) r q.posts past (fabric past)) r)
+      (by-side (λ y. (t : ℕ) → up_by y t (Clc s B) (Declined lack) past ≡ None) (λ t. refl) (λ t. refl)) (λ t st. refl) (λ t st. refl) (λ t d. ap (λ b. b && true) d) (λ t. refl)
+      (by-side (λ y. book_clc y (Clc s B) (Declined lack) past (book_of y past) ≡ book_of y past) refl refl)
+      (ap (λ f. front_posts setup payload A s past f) at ∙ ap (λ st. clc_posts setup payload A s (AcceptMessage o) past st) step) (refl, tt) in
       taken-by setup payload regions A s (AcceptMessage o) link (Decline lack) (entry-of actor (Clc s B) (Declined lack) posts) past one known step
       (record { reply = refl; posts = f.posts_are; own = fallen-own A (entry-of actor (Clc s B) (Declined lack) posts) (ClcPost A s None (DeclineMessage (refusal A lack)) ∷ []) w f }) f.theirs f.lendings_are
 
@@ -189,9 +189,9 @@ module _ (setup : Setup) (payload : List ℕ) (regions : List Buffer) (stage : S
       let facts = facts-of A w in
       let more = facts.1 in
       let f = falls setup payload regions stage past world lendings_are actor n s A FellBack posts [] played shaken known facts.0 more.0 more.1
-          (λ q v r. ap (λ v. after v q.reply q.posts past (fabric past)) v ∙ ap (λ r. after (Clc s B) r q.posts past (fabric past)) r)
-          (by-side (λ y. (t : ℕ) → up_by y t (Clc s B) FellBack past ≡ None) (λ t. refl) (λ t. refl)) (λ t st. refl) (λ t st. refl) (λ t d. ap (λ b. b && true) d) (λ t. refl)
-          (by-side (λ y. book_clc y (Clc s B) FellBack past (book_of y past) ≡ book_of y past) refl refl)
-          (ap (λ f. front_posts setup payload A s past f) at ∙ ap (λ st. clc_posts setup payload A s (DeclineMessage r) past st) step) tt in
+      (λ q v r. ap (λ v. after v q.reply q.posts past (fabric past)) v ∙ ap (λ r. after (Clc s B) r q.posts past (fabric past)) r)
+      (by-side (λ y. (t : ℕ) → up_by y t (Clc s B) FellBack past ≡ None) (λ t. refl) (λ t. refl)) (λ t st. refl) (λ t st. refl) (λ t d. ap (λ b. b && true) d) (λ t. refl)
+      (by-side (λ y. book_clc y (Clc s B) FellBack past (book_of y past) ≡ book_of y past) refl refl)
+      (ap (λ f. front_posts setup payload A s past f) at ∙ ap (λ st. clc_posts setup payload A s (DeclineMessage r) past st) step) tt in
       taken-by setup payload regions A s (DeclineMessage r) link Fell (entry-of actor (Clc s B) FellBack posts) past one known step
       (record { reply = refl; posts = f.posts_are; own = fallen-own A (entry-of actor (Clc s B) FellBack posts) [] w f }) f.theirs f.lendings_are

@@ -111,8 +111,8 @@ taken-by None h = keeps-it h
 taken-by (Some m) h =
     keeps-either (is_over h) h h (if m.check then validates m.snapshot.number h else takes_snapshot m.snapshot h) (keeps-it h)
     (keeps-either m.check h (validates m.snapshot.number h) (takes_snapshot m.snapshot h)
-      (keeps-either (shows_gap m.snapshot.number h.taken.number) h (strikes (Gap (wire_number m.snapshot.number) (wire_number h.taken.number)) h) h (record { up = refl; sent = λ e. refl }) (keeps-it h))
-      (keeps-either m.snapshot.aborted h (strikes PeerAbort (record h { taken = m.snapshot })) (record h { taken = m.snapshot }) (record { up = refl; sent = λ e. refl }) (record { up = refl; sent = λ e. refl })))
+    (keeps-either (shows_gap m.snapshot.number h.taken.number) h (strikes (Gap (wire_number m.snapshot.number) (wire_number h.taken.number)) h) h (record { up = refl; sent = λ e. refl }) (keeps-it h))
+    (keeps-either m.snapshot.aborted h (strikes PeerAbort (record h { taken = m.snapshot })) (record h { taken = m.snapshot }) (record { up = refl; sent = λ e. refl }) (record { up = refl; sent = λ e. refl })))
 
 completed-by : (m : Option Message) (h : Half) → KeepsUp h (completes m h)
 completed-by None h = keeps-it h

@@ -10,8 +10,8 @@
 #![tactic(auto)]
 
 mod connection;
-mod wire_laws;
 mod laws;
+mod wire_laws;
 mod world;
 
 pub use laws::{
