@@ -1,14 +1,13 @@
 -- B takes a Proposal and accepts it, in first or in later contact: it is what its manager does with the message.
 use Rattle.pipe_model.specs.Keys.{keys_of}
-use Rattle.std.proofs.Common.{◌≡◌, ◌∙◌, ◌⊎◌, inl, inr, ℕ, ◌+◌, ◌<◌, ◌==◌, ◌&&◌, Bool, true, false, if◌then◌else◌, List, [], ◌∷◌, ◌++◌, length, map, filter_map, reverse, refl, ap, sym, subst, append-nil}
-use Rattle.std.specs.Prelude.{Option, Some, None, option_map, option_and_then, option_to_list, unwrap_or, slice_index_or}
-use Rattle.std.specs.Option.{option_or}
+use Rattle.std.proofs.Common.{◌≡◌, ◌∙◌, ◌⊎◌, inl, inr, ℕ, ◌+◌, ◌<◌, ◌==◌, Bool, true, false, if◌then◌else◌, List, [], ◌∷◌, ◌++◌, length, map, filter_map, reverse, refl, ap, sym, subst}
+use Rattle.std.specs.Prelude.{Some, None, unwrap_or, slice_index_or}
 use Rattle.smc_num.specs.declared.Side.{Side}
 use Rattle.smc_num.specs.declared.Side.TheVariants.{A, B}
 use Rattle.smc_num.specs.declared.LinkId.{LinkId}
 use Rattle.smc_num.specs.Names.{head, up_to, no_link}
-use Rattle.smc_num.specs.Links.{Known, live_links}
-use Rattle.smc_num.specs.Places.{Place, rmb_at, rmb_address}
+use Rattle.smc_num.specs.Links.{live_links}
+use Rattle.smc_num.specs.Places.{Place, rmb_at}
 use Rattle.rmb_region.specs.Regions.{Buffer}
 use Rattle.clc_wire.specs.declared.offer.Offer.{Offer}
 use Rattle.clc_wire.specs.declared.proposal.Proposal.{Proposal}
@@ -21,28 +20,28 @@ use Rattle.pipe_model.specs.declared.verdict.ClcStep.TheVariants.{SendAccept}
 use Rattle.pipe_model.specs.declared.post.Post.{Post}
 use Rattle.pipe_model.specs.declared.post.Post.TheVariants.{Clc as ClcPost}
 use Rattle.pipe_model.specs.declared.entry.Entry.{Entry}
-use Rattle.pipe_model.specs.History.{Offered, offered}
-use Rattle.pipe_model.specs.Fabric.{Act, Fabric, fabric, peer, act_in, table_of, loses_group_with, path_up, made_on}
+use Rattle.pipe_model.specs.History.{offered}
+use Rattle.pipe_model.specs.Fabric.{fabric, peer, table_of, loses_group_with, made_on}
 use Rattle.pipe_model.specs.Ends.{Half, fresh}
-use Rattle.pipe_model.specs.Pipe.{Item, Up, GroupEnd, half}
-use Rattle.pipe_model.specs.Connections.{WaitsProposal, WaitsConfirm, part, end_state, is_up, fate_of, fates, ups, group_end, items, confirmed_by, up_by}
+use Rattle.pipe_model.specs.Pipe.{Item, GroupEnd, half}
+use Rattle.pipe_model.specs.Connections.{WaitsProposal, WaitsConfirm, part, end_state, is_up, fate_of, fates, ups, group_end, items}
 use Rattle.pipe_model.specs.Messages.{offer, next_pair, pair_on}
 use Rattle.smc_num.specs.Keys.{key_base, number_for}
 use Rattle.pipe_model.specs.Lending.{lendings, pipe_of, free_places}
 use Rattle.pipe_model.specs.Fallback.{Whole, front}
-use Rattle.pipe_model.specs.Posts.{lightest, new_offer, next_free, offered_place, connection_posts, clc_posts, accept_post, first_link, fewest, groups_begun}
+use Rattle.pipe_model.specs.Posts.{lightest, new_offer, next_free, offered_place, connection_posts, clc_posts, accept_post}
 use Rattle.pipe_model.specs.Replies.{clc_step}
 use Rattle.pipe_model.specs.Lawful.{asked, front_posts}
 use Rattle.side_core.specs.Desk.{Desk, next_place, first_link as desk_link, begins_group}
 use Rattle.side_core.specs.Manager.{Manager, hand_at, with_hand}
 use Rattle.side_core.specs.Taking.{links_in_use, offered_link, offer_for, starts, with_desk, accepts}
 use Rattle.world_core.specs.OneLink.{the_link, Stage, NoLink, Begun, LiveAtBoth, fabric_at, IsAtStage}
-use Rattle.world_core.specs.Sockets.{IsWorld, IsOffer, end_at, up_at}
+use Rattle.world_core.specs.Sockets.{IsWorld, IsOffer}
 use Rattle.world_core.specs.Played.{IsOneLink, IsPlayed}
 use Rattle.world_core.specs.Agreement.{IsShaken}
 use Rattle.world_core.specs.Wired.{EachItem, keeps_open}
 use Rattle.world_core.specs.Managers.{manager_of, desk_of, records_of, HasLendings}
-use Rattle.world_core.proofs.EntryItems.{below, items-are}
+use Rattle.world_core.proofs.EntryItems.{items-are}
 use Rattle.world_core.proofs.Offers.{IsFree, new-is-offer, first-link, later-link}
 use Rattle.world_core.proofs.QuietEvents.{by-side, entry-of}
 use Rattle.world_core.proofs.QuietEntries.{and-false}
@@ -54,7 +53,7 @@ use Rattle.world_core.proofs.KnownEntries.{offers-of}
 use Rattle.world_core.proofs.StillEntries.{silent-pipes}
 use Rattle.world_core.proofs.TakenMessages.{end-is}
 use Rattle.world_core.proofs.LentRows.{free-place}
-use Rattle.world_core.proofs.TakenAlone.{IsTakenBy, IsStep, taken-by, paths_of, waits_first, is-early}
+use Rattle.world_core.proofs.TakenAlone.{IsTakenBy, taken-by, paths_of, waits_first, is-early}
 use Rattle.world_core.proofs.AcceptManagers.{Accepting, begins_contact, joins_group, accept_entry, accepts-own, accepts-theirs, accepts-lendings}
 
 -- no fate in such an entry

@@ -1,9 +1,7 @@
 -- An entry that does something to the end of one socket at one side: what it makes of the two managers, and what is posted.
-use Rattle.std.proofs.Common.{◌≡◌, ◌∙◌, ℕ, ◌+◌, ◌-◌, ◌<◌, ◌==◌, not, Bool, true, false, if◌then◌else◌, List, [], ◌∷◌, ◌++◌, length, drop, map, filter, flat_map, refl, ap, sym, subst, append-nil, arith, eqb-true}
-use Rattle.std.specs.Prelude.{Option, Some, None, option_map, unwrap_or}
+use Rattle.std.proofs.Common.{◌≡◌, ◌∙◌, ℕ, ◌<◌, ◌==◌, Bool, true, false, List, [], ◌∷◌, ◌++◌, length, drop, flat_map, refl, ap, sym, subst, append-nil, arith, eqb-true}
 use Rattle.smc_num.specs.declared.Side.{Side}
 use Rattle.smc_num.specs.declared.Side.TheVariants.{A, B}
-use Rattle.smc_num.specs.declared.LinkId.{LinkId}
 use Rattle.smc_num.specs.Names.{other}
 use Rattle.rmb_region.specs.Regions.{Buffer}
 use Rattle.pipe_model.specs.declared.setup.Setup.{Setup}
@@ -12,23 +10,21 @@ use Rattle.pipe_model.specs.declared.entry.Entry.{Entry}
 use Rattle.pipe_model.specs.declared.sent.Sent.{Sent}
 use Rattle.pipe_model.specs.Words.{element_size}
 use Rattle.pipe_model.specs.History.{offered}
-use Rattle.pipe_model.specs.Ends.{Half, is_due, batch, settle}
+use Rattle.pipe_model.specs.Ends.{Half, settle}
 use Rattle.pipe_model.specs.Pipe.{Item, half, pipe, posts_of, sent_since}
-use Rattle.pipe_model.specs.Connections.{is_up, named_link, group_on, deeds, items, part}
+use Rattle.pipe_model.specs.Connections.{group_on, deeds, items, part}
 use Rattle.pipe_model.specs.Lending.{terms_of}
-use Rattle.pipe_model.specs.Keys.{keys_of}
 use Rattle.pipe_model.specs.Posts.{sent_posts, end_posts, pipe_posts, is_offered, offered_sockets, connection_posts}
 use Rattle.pipe_model.specs.Lawful.{asked}
-use Rattle.side_core.specs.Records.{conn_at}
 use Rattle.side_core.specs.Acting.{acts_at, due_at, due_from}
 use Rattle.world_core.specs.OneLink.{Stage}
 use Rattle.world_core.specs.Played.{IsMade}
 use Rattle.world_core.specs.Managers.{manager_of, conn_of, end_of, changes_end}
 use Rattle.world_core.proofs.PipePosts.{met}
-use Rattle.world_core.proofs.PipeSteps.{sent-by, rests}
+use Rattle.world_core.proofs.PipeSteps.{sent-by}
 use Rattle.world_core.proofs.KeptManagers.{conn-at, manager-kept, end-changed, end-acted}
-use Rattle.world_core.proofs.QuietEntries.{IsCalm, bare, shows-now, shows-bare, desk-stays, socket-stays, end-now, bare-items}
-use Rattle.world_core.proofs.KeyedEnds.{KnowsEnds, UpFacts, up-facts}
+use Rattle.world_core.proofs.QuietEntries.{IsCalm, shows-bare, desk-stays, socket-stays, end-now, bare-items}
+use Rattle.world_core.proofs.KeyedEnds.{KnowsEnds, up-facts}
 use Rattle.world_core.proofs.DuePosts.{only-pipes, end-due}
 
 -- the entry as the pipes see it

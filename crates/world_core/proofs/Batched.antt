@@ -1,30 +1,22 @@
 -- What is under way on a wire, LLC messages apart, are batches: of each three posts one at least is a CDC message.
-use Rattle.std.proofs.Common.{◌≡◌, ◌∙◌, ◌==◌, ◌⊎◌, inl, inr, ℕ, ◌+◌, ◌-◌, ◌*◌, ◌%◌, ◌≤◌, Bool, true, false, not, if◌then◌else◌, List, [], ◌∷◌, ◌++◌, length, take, drop, map, filter, refl, ap, sym, subst, ◌&&◌, true≢false, arith, append_assoc, append-nil, length-append, nat_le, take-append-drop, suc, zero}
-use Rattle.std.specs.Prelude.{Option, Some, None, cond}
+use Rattle.std.proofs.Common.{◌≡◌, ◌∙◌, ◌==◌, inl, inr, ℕ, ◌+◌, ◌-◌, ◌*◌, ◌%◌, ◌≤◌, Bool, true, false, if◌then◌else◌, List, [], ◌∷◌, ◌++◌, length, take, drop, map, filter, refl, ap, sym, subst, ◌&&◌, arith, append_assoc, length-append, nat_le, take-append-drop, suc, zero}
+use Rattle.std.specs.Prelude.{Some, cond}
 use Rattle.std.proofs.lemmas.List.{map-append}
 use Rattle.std.proofs.lemmas.List.Elements.{filter-append}
 use Rattle.smc_num.specs.declared.Side.{Side}
 use Rattle.smc_num.specs.declared.LinkId.{LinkId}
-use Rattle.smc_num.specs.Names.{other, same_side, same_link}
-use Rattle.smc_num.specs.Places.{Place, rmb_at}
-use Rattle.clc_wire.specs.declared.offer.Offer.{Offer}
-use Rattle.pipe_model.specs.declared.setup.Setup.{Setup}
+use Rattle.smc_num.specs.Names.{same_side, same_link}
 use Rattle.pipe_model.specs.declared.post.Post.{Post}
 use Rattle.pipe_model.specs.declared.post.Post.TheVariants.{Write, Cdc, Llc, Clc}
 use Rattle.pipe_model.specs.declared.post.Placed.{Placed}
 use Rattle.pipe_model.specs.declared.entry.Entry.{Entry}
 use Rattle.pipe_model.specs.declared.sent.Sent.{Sent}
-use Rattle.pipe_model.specs.Words.{element_size}
 use Rattle.pipe_model.specs.Snapshot.{spelled, validation}
 use Rattle.pipe_model.specs.History.{Offered, next_number, numbered}
 use Rattle.pipe_model.specs.Wires.{is_on, completes_later, unlanded, uncompleted}
-use Rattle.pipe_model.specs.Posts.{writes, offered_place, cdc_posts, sent_posts, connection_posts}
-use Rattle.pipe_model.specs.Lawful.{draft, asked}
-use Rattle.world_core.specs.Played.{IsMade, IsPlayed}
-use Rattle.world_core.specs.WireSteps.{leaving, landing_now, completing_now, Stays, LandsNow, CompletesNow, Way, EachPost}
-use Rattle.world_core.specs.Agreement.{PostsOne, PostsFew}
-use Rattle.world_core.proofs.AskedPosts.{IsNoCdc, asked-no-cdc}
-use Rattle.world_core.proofs.Carrying.{drop-none, take-none}
+use Rattle.pipe_model.specs.Posts.{sent_posts}
+use Rattle.world_core.specs.WireSteps.{leaving, landing_now, completing_now, Way}
+use Rattle.world_core.proofs.Carrying.{drop-none}
 
 -- how many CDC messages there are
 abbrev pub cdc_count : List Post → ℕ

@@ -1,5 +1,5 @@
 -- Writes and reads: an end that is up is called, at its manager, and posts what is due then; else nothing changes.
-use Rattle.std.proofs.Common.{◌≡◌, ◌∙◌, ℕ, ◌+◌, ◌<◌, ◌==◌, ◌&&◌, ◌||◌, min, Bool, true, false, if◌then◌else◌, List, [], ◌∷◌, ◌++◌, take, drop, refl, ap, sym, eq-eqb, eqb-true, not, true≢false}
+use Rattle.std.proofs.Common.{◌≡◌, ◌∙◌, ℕ, ◌+◌, ◌<◌, ◌==◌, ◌&&◌, ◌||◌, min, Bool, true, false, if◌then◌else◌, List, [], ◌∷◌, ◌++◌, take, refl, ap, sym, eq-eqb, eqb-true, not, true≢false}
 use Rattle.std.specs.Prelude.{is_some, unwrap_or, option_map}
 use Rattle.smc_num.specs.declared.Side.{Side}
 use Rattle.smc_num.specs.declared.LinkId.{LinkId}
@@ -7,10 +7,6 @@ use Rattle.smc_num.specs.Names.{other}
 use Rattle.rmb_region.specs.Regions.{Buffer}
 use Rattle.pipe_model.specs.declared.setup.Setup.{Setup}
 use Rattle.pipe_model.specs.declared.event.End.{End}
-use Rattle.pipe_model.specs.declared.event.Event.{Event}
-use Rattle.pipe_model.specs.declared.event.Event.TheVariants.{Write, Read}
-use Rattle.pipe_model.specs.declared.reply.Reply.{Reply}
-use Rattle.pipe_model.specs.declared.post.Post.{Post}
 use Rattle.pipe_model.specs.declared.entry.Entry.{Entry}
 use Rattle.pipe_model.specs.Closing.{cause_of, is_closing}
 use Rattle.pipe_model.specs.Ends.{Half, window, unread, settle}
@@ -19,10 +15,9 @@ use Rattle.pipe_model.specs.Calls.{Call, Writes, Reads, calls, is_ended}
 use Rattle.pipe_model.specs.Pipe.{Item, Calls, half, pipe}
 use Rattle.pipe_model.specs.Connections.{is_up, call_on, deeds, group_on, part}
 use Rattle.pipe_model.specs.Lending.{terms_of}
-use Rattle.pipe_model.specs.Posts.{is_offered}
 use Rattle.pipe_model.specs.Lawful.{asked}
 use Rattle.side_core.specs.Acting.{acts_at, due_at, call_of}
-use Rattle.world_core.specs.OneLink.{Stage, the_link}
+use Rattle.world_core.specs.OneLink.{Stage}
 use Rattle.world_core.specs.Played.{IsMade}
 use Rattle.world_core.specs.Wired.{is_transfer}
 use Rattle.world_core.specs.Managers.{manager_of, end_of}

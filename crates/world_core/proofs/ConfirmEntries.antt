@@ -1,18 +1,15 @@
 -- A takes the Accept of first contact and confirms: it is what its manager does with the message.
 use Rattle.clc_handshake.specs.Stages.{named_group, after_step}
 use Rattle.pipe_model.specs.Keys.{keys_of}
-use Rattle.std.proofs.Common.{◌≡◌, ◌∙◌, ◌⊎◌, inl, inr, ℕ, ◌+◌, ◌<◌, ◌==◌, ◌&&◌, Bool, true, false, if◌then◌else◌, List, [], ◌∷◌, ◌++◌, length, map, filter_map, reverse, refl, ap, sym, subst, append-nil, true≢false, eq-eqb}
-use Rattle.std.specs.Prelude.{Option, Some, None, option_map, option_and_then, option_to_list, unwrap_or, slice_index_or}
-use Rattle.std.specs.Option.{option_or}
+use Rattle.std.proofs.Common.{◌≡◌, ◌∙◌, ◌⊎◌, inl, inr, ℕ, ◌+◌, ◌<◌, ◌==◌, true, false, if◌then◌else◌, List, [], ◌∷◌, ◌++◌, length, filter_map, reverse, refl, ap, sym, subst, true≢false, eq-eqb}
+use Rattle.std.specs.Prelude.{Some, None, option_map, unwrap_or}
 use Rattle.smc_num.specs.declared.Side.{Side}
 use Rattle.smc_num.specs.declared.Side.TheVariants.{A, B}
-use Rattle.smc_num.specs.declared.LinkId.{LinkId}
-use Rattle.smc_num.specs.Names.{head, up_to, no_link}
-use Rattle.smc_num.specs.Links.{Known, live_links}
-use Rattle.smc_num.specs.Places.{Place, rmb_at, rmb_address}
+use Rattle.smc_num.specs.Names.{head, no_link}
+use Rattle.smc_num.specs.Links.{live_links}
+use Rattle.smc_num.specs.Places.{Place, rmb_at}
 use Rattle.rmb_region.specs.Regions.{Buffer}
 use Rattle.clc_wire.specs.declared.offer.Offer.{Offer}
-use Rattle.clc_wire.specs.declared.proposal.Proposal.{Proposal}
 use Rattle.clc_wire.specs.declared.message.ClcMessage.TheVariants.{Accept as AcceptMessage, Confirm as ConfirmMessage}
 use Rattle.pipe_model.specs.declared.setup.Setup.{Setup}
 use Rattle.pipe_model.specs.declared.event.Event.TheVariants.{Clc}
@@ -23,39 +20,36 @@ use Rattle.pipe_model.specs.declared.post.Post.{Post}
 use Rattle.pipe_model.specs.declared.post.Post.TheVariants.{Clc as ClcPost}
 use Rattle.pipe_model.specs.declared.entry.Entry.{Entry}
 use Rattle.pipe_model.specs.History.{Offered, offered}
-use Rattle.pipe_model.specs.Fabric.{Act, Fabric, fabric, peer, act_in, table_of, loses_group_with, path_up, made_on}
+use Rattle.pipe_model.specs.Fabric.{peer, table_of, loses_group_with}
 use Rattle.pipe_model.specs.Ends.{Half, fresh}
-use Rattle.pipe_model.specs.Pipe.{Item, Up, GroupEnd, half}
-use Rattle.pipe_model.specs.Connections.{IsUp, WaitsAnswer, WaitsConfirm, WaitsLink, early_state, part, end_state, is_up, fate_of, fates, ups, group_end, items, confirmed_by, up_by, named_link}
-use Rattle.pipe_model.specs.Messages.{offer, next_pair, pair_on}
+use Rattle.pipe_model.specs.Pipe.{Item, GroupEnd, half}
+use Rattle.pipe_model.specs.Connections.{IsUp, WaitsConfirm, WaitsLink, early_state, part, end_state, is_up, fate_of, fates, ups, group_end, items, named_link}
+use Rattle.pipe_model.specs.Messages.{offer, next_pair}
 use Rattle.smc_num.specs.Keys.{key_base, number_for}
 use Rattle.pipe_model.specs.Lending.{lendings, pipe_of, free_places}
 use Rattle.pipe_model.specs.Fallback.{Whole, front}
-use Rattle.pipe_model.specs.Posts.{lightest, new_offer, next_free, offered_place, connection_posts, clc_posts, confirm_post, first_link, fewest, groups_begun}
+use Rattle.pipe_model.specs.Posts.{new_offer, next_free, offered_place, connection_posts, clc_posts, confirm_post}
 use Rattle.pipe_model.specs.Replies.{clc_step, step_told}
 use Rattle.pipe_model.specs.Lawful.{asked, front_posts}
-use Rattle.side_core.specs.Desk.{Desk, next_place, first_link as desk_link, begins_group, makes_link, learns_offer}
+use Rattle.side_core.specs.Desk.{next_place, begins_group, makes_link, learns_offer}
 use Rattle.side_core.specs.Manager.{Manager, hand_at, with_hand, state_at}
 use Rattle.side_core.specs.Taking.{verdict_posts, verdict_risen, takes_message, taking_posts, taking_told, offer_for, starts, with_desk, hears, verdict_at, by_verdict}
-use Rattle.world_core.specs.OneLink.{the_link, Stage, NoLink, Begun, Made, fabric_at, IsAtStage}
-use Rattle.world_core.specs.Sockets.{Socket, FirstAccepted, first_step, is_unoffered, on_link, StandsAt, IsWorld, IsOffer, end_at, up_at}
+use Rattle.world_core.specs.OneLink.{the_link, Begun, Made, fabric_at, IsAtStage}
+use Rattle.world_core.specs.Sockets.{Socket, FirstAccepted, first_step, is_unoffered, on_link, StandsAt, IsWorld, IsOffer}
 use Rattle.world_core.specs.Played.{IsOneLink, IsPlayed}
 use Rattle.world_core.specs.Agreement.{IsShaken}
 use Rattle.world_core.specs.Wired.{EachItem, keeps_open}
-use Rattle.world_core.specs.Managers.{manager_of, desk_of, records_of, HasLendings}
-use Rattle.world_core.proofs.EntryItems.{below, items-are}
-use Rattle.world_core.proofs.Offers.{IsFree, new-is-offer, first-link, later-link}
+use Rattle.world_core.specs.Managers.{manager_of, desk_of, HasLendings}
+use Rattle.world_core.proofs.EntryItems.{items-are}
+use Rattle.world_core.proofs.Offers.{IsFree, new-is-offer}
 use Rattle.world_core.proofs.QuietEvents.{by-side, entry-of}
 use Rattle.world_core.proofs.QuietEntries.{and-false}
 use Rattle.world_core.proofs.Moves.{link-moves, keeps-group}
 use Rattle.world_core.proofs.LinkMoves.{makes-link as makes-the-link}
-use Rattle.world_core.proofs.ClcMoves.{link-still}
 use Rattle.world_core.proofs.Parts.{part-open}
-use Rattle.world_core.proofs.KnownEntries.{offers-of}
 use Rattle.world_core.proofs.StillEntries.{silent-pipes}
-use Rattle.world_core.proofs.TakenMessages.{end-is}
 use Rattle.world_core.proofs.LentRows.{free-place, same-verdict}
-use Rattle.world_core.proofs.TakenAlone.{IsTakenBy, IsStep, taken-by, paths_of, waits_first, is-early}
+use Rattle.world_core.proofs.TakenAlone.{paths_of}
 use Rattle.world_core.proofs.ConfirmManagers.{confirm_entry, confirms-own, confirms-theirs, confirms-lendings}
 
 -- an entry in which A takes the Accept of first contact: its reply, its posts and its manager are what its manager makes of the message,

@@ -3,54 +3,49 @@
 use Rattle.world_core.proofs.OpenEnds.{never-over}
 use Rattle.std.specs.List.{cons_option}
 use Rattle.pipe_model.specs.Words.{rmbs_of, elements_of}
-use Rattle.std.proofs.Common.{◌≡◌, ◌∙◌, ℕ, ◌+◌, ◌-◌, ◌<◌, ◌==◌, ◌&&◌, ◌||◌, not, Bool, true, false, cond, if◌then◌else◌, List, [], ◌∷◌, ◌++◌, length, map, filter, filter_map, refl, ap, sym, subst, ◌⊎◌, inl, inr, eq-eqb, eqb-true, append-nil, arith, suc, zero, true≢false}
-use Rattle.std.specs.Prelude.{Option, Some, None, option_map, option_and_then, unwrap_or, slice_set, slice_index_or, is_some}
+use Rattle.std.proofs.Common.{◌≡◌, ◌∙◌, ℕ, ◌+◌, ◌-◌, ◌<◌, ◌==◌, ◌||◌, not, Bool, true, false, cond, if◌then◌else◌, List, [], ◌∷◌, ◌++◌, length, map, filter, refl, ap, sym, subst, eq-eqb, eqb-true, arith, suc, zero}
+use Rattle.std.specs.Prelude.{Option, Some, None, option_map, unwrap_or, slice_set, slice_index_or}
 use Rattle.std.specs.Option.{option_or}
 use Rattle.smc_num.specs.declared.Side.{Side}
 use Rattle.smc_num.specs.declared.Side.TheVariants.{A, B}
 use Rattle.smc_num.specs.declared.LinkId.{LinkId}
-use Rattle.smc_num.specs.Names.{other, up_to, head, no_link}
-use Rattle.smc_num.specs.Links.{live_links, Known}
-use Rattle.smc_num.specs.Places.{Place, rmb_at, same_place, all_places, is_free}
-use Rattle.smc_num.specs.Keys.{Key}
+use Rattle.smc_num.specs.Names.{up_to, head, no_link}
+use Rattle.smc_num.specs.Links.{live_links}
+use Rattle.smc_num.specs.Places.{rmb_at, same_place, all_places, is_free}
 use Rattle.rmb_region.specs.Regions.{Buffer}
 use Rattle.clc_wire.specs.declared.offer.Offer.{Offer}
 use Rattle.clc_wire.specs.declared.message.ClcMessage.TheVariants.{Confirm as ConfirmMessage}
-use Rattle.element_ledger.specs.Lendings.{Row, changes_at, lends as lends_row, place_of, next_lending, first_free}
+use Rattle.element_ledger.specs.Lendings.{Row, changes_at, lends as lends_row, place_of}
 use Rattle.pipe_model.specs.declared.setup.Setup.{Setup}
 use Rattle.pipe_model.specs.declared.event.Event.TheVariants.{Clc}
 use Rattle.pipe_model.specs.declared.reply.Reply.TheVariants.{Sent}
 use Rattle.pipe_model.specs.declared.reply.SentKind.TheVariants.{Confirm as ConfirmSent}
-use Rattle.pipe_model.specs.declared.post.Post.{Post}
 use Rattle.pipe_model.specs.declared.post.Post.TheVariants.{Clc as ClcPost}
 use Rattle.pipe_model.specs.declared.entry.Entry.{Entry}
 use Rattle.pipe_model.specs.History.{Offered, offered, offered_if}
-use Rattle.pipe_model.specs.Fabric.{Act, Fabric, fabric, peer, act_in, group_of, table_of, loses_group_with, made_on}
+use Rattle.pipe_model.specs.Fabric.{Fabric, table_of, loses_group_with, made_on}
 use Rattle.pipe_model.specs.Ends.{Half, fresh, is_over}
 use Rattle.pipe_model.specs.Pipe.{Item, half, pipe}
-use Rattle.pipe_model.specs.Connections.{EndState, WaitsConfirm, WaitsLink, IsUp, is_up, early_state, end_state, named_link, group_on, items, part, after_loss}
-use Rattle.pipe_model.specs.Keys.{Keys}
+use Rattle.pipe_model.specs.Connections.{WaitsConfirm, WaitsLink, IsUp, is_up, early_state, end_state, named_link, group_on, items, part, after_loss}
 use Rattle.pipe_model.specs.Lending.{Lending, lendings, lends_by, lent, lent_places, returns, free_places, pipe_of, terms_of, leaves_handshake}
 use Rattle.pipe_model.specs.Fallback.{is_raw}
 use Rattle.pipe_model.specs.Messages.{pair_on, serial, pair_number, new_pair}
 use Rattle.pipe_model.specs.Posts.{offered_place}
 use Rattle.clc_handshake.specs.Stages.{Hand}
 use Rattle.side_core.specs.Records.{Connection, new_route}
-use Rattle.side_core.specs.Desk.{Desk, most_slots, next_place, next_element, free_place, begins_group, makes_link, learns_offer, lends_next}
+use Rattle.side_core.specs.Desk.{Desk, most_slots, next_element, begins_group, makes_link, learns_offer, lends_next}
 use Rattle.side_core.specs.Manager.{Manager, hand_at, with_hand, no_hand}
 use Rattle.side_core.specs.Taking.{hears, starts, with_desk}
-use Rattle.world_core.specs.OneLink.{the_link, the_key, Stage, Begun, Made, fabric_at, groups_at, keys_at, book_at, IsAtStage}
+use Rattle.world_core.specs.OneLink.{the_link, Begun, Made, fabric_at, groups_at, keys_at, book_at, IsAtStage}
 use Rattle.world_core.specs.Wired.{EachItem, keeps_open}
-use Rattle.world_core.specs.Managers.{manager_of, desk_of, hand_of, conn_of, end_of, route_of, rows_of, row_of, first_on, each_socket, lending_on, heard_on, awaits_confirm, keeps_element, epoch_in, lending_due, HasLendings}
+use Rattle.world_core.specs.Managers.{manager_of, desk_of, hand_of, conn_of, end_of, route_of, rows_of, first_on, each_socket, lending_on, heard_on, awaits_confirm, keeps_element, epoch_in, lending_due, HasLendings}
 use Rattle.world_core.proofs.QuietEvents.{by-side, entry-of}
-use Rattle.world_core.proofs.QuietEntries.{same-group, all-stay, and-false}
-use Rattle.world_core.proofs.StillEntries.{returns-by}
-use Rattle.world_core.proofs.LentRows.{free-place}
+use Rattle.world_core.proofs.QuietEntries.{all-stay, and-false}
 use Rattle.world_core.proofs.StartedRows.{rows-change, epoch-stays, not-of-free, spare-less, next-is, epoch-here, free-of, eqb-sym}
 use Rattle.world_core.proofs.SameManagers.{desk_from, rows_from, conn_from, route_from, same-conn, same-spare}
 use Rattle.world_core.proofs.LinkManagers.{stage-desk}
 use Rattle.world_core.proofs.KeptManagers.{by-parts}
-use Rattle.world_core.proofs.Lendings.{no-lending-due, lending-due}
+use Rattle.world_core.proofs.Lendings.{lending-due}
 use Rattle.world_core.proofs.Tables.{same-sockets, set-socket, at-socket, sockets-long}
 
 -- the entry of a Confirm of first contact

@@ -1,31 +1,27 @@
 -- CONFIRM LINK and its reply: what is known of the link, and of the socket of first contact, as a side takes one of them.
-use Rattle.std.proofs.Common.{◌≡◌, ◌∙◌, ℕ, ◌+◌, ◌==◌, ◌&&◌, ◌||◌, not, Bool, true, false, if◌then◌else◌, List, [], ◌∷◌, ◌++◌, reverse, filter_map, refl, ap, sym, subst, eq-eqb, true≢false}
-use Rattle.std.specs.Prelude.{Option, Some, None, option_map, option_and_then, option_to_list, is_some}
+use Rattle.std.proofs.Common.{◌≡◌, ◌∙◌, ℕ, ◌==◌, ◌&&◌, Bool, true, false, if◌then◌else◌, List, [], ◌∷◌, ◌++◌, reverse, filter_map, refl, ap, sym, eq-eqb, true≢false}
+use Rattle.std.specs.Prelude.{Some, None, option_map, option_and_then, option_to_list}
 use Rattle.std.specs.Option.{option_or}
 use Rattle.smc_num.specs.declared.Side.{Side}
 use Rattle.smc_num.specs.declared.Side.TheVariants.{A, B}
-use Rattle.smc_num.specs.declared.LinkId.{LinkId}
 use Rattle.smc_num.specs.declared.LinkPhase.TheVariants.{Live as LiveLink}
 use Rattle.smc_num.specs.Names.{other, same_link}
 use Rattle.smc_num.specs.Places.{rmb_at}
-use Rattle.smc_num.specs.Keys.{Key}
 use Rattle.llc_wire.specs.declared.LlcMessage.{LlcMessage}
 use Rattle.clc_wire.specs.declared.offer.Offer.{Offer}
 use Rattle.element_ledger.specs.Lendings.{Row}
 use Rattle.pipe_model.specs.declared.setup.Setup.{Setup}
 use Rattle.pipe_model.specs.declared.entry.Entry.{Entry}
 use Rattle.pipe_model.specs.declared.flow.FlowStep.TheVariants.{Live}
-use Rattle.pipe_model.specs.Words.{passes}
-use Rattle.pipe_model.specs.History.{Offered, offered}
-use Rattle.pipe_model.specs.Fabric.{Act, Fabric, fabric, peer, act_in, group_of, table_of, loses_group_with}
+use Rattle.pipe_model.specs.History.{offered}
+use Rattle.pipe_model.specs.Fabric.{Act, fabric, peer, act_in, group_of, table_of, loses_group_with}
 use Rattle.pipe_model.specs.Pipe.{Item, Fate, GroupEnd, Up}
 use Rattle.pipe_model.specs.Connections.{EndState, WaitsLink, IsUp, is_up, early_state, end_state, after_event, after_loss, up_by, comes_up, confirmed_by, is_first_on, ups, fates, fate_of, group_end, group_on, deeds, items}
-use Rattle.pipe_model.specs.Keys.{Keys}
-use Rattle.side_core.specs.Desk.{Desk, goes_live}
-use Rattle.world_core.specs.OneLink.{the_link, the_key, the_keys, Stage, Asking, LiveAtA, LiveAtBoth, fabric_at, groups_at, keys_at, book_at, IsAtStage}
-use Rattle.world_core.specs.Sockets.{Socket, Unopened, Fallen, Proposed, Refused, AwaitsLink, FirstUpAtA, is_unoffered, first_step, offered_at, on_link, StandsAt, IsWorld, IsOffer}
+use Rattle.side_core.specs.Desk.{goes_live}
+use Rattle.world_core.specs.OneLink.{the_link, the_key, the_keys, Stage, Asking, LiveAtA, LiveAtBoth, fabric_at, groups_at, keys_at, book_at}
+use Rattle.world_core.specs.Sockets.{Socket, Unopened, Fallen, Proposed, Refused, AwaitsLink, FirstUpAtA, is_unoffered, first_step, offered_at, on_link, StandsAt, IsWorld}
 use Rattle.world_core.proofs.SameManagers.{desk_from}
-use Rattle.world_core.proofs.QuietEntries.{same-group, and-false}
+use Rattle.world_core.proofs.QuietEntries.{same-group}
 use Rattle.world_core.proofs.EntryItems.{below, items-are}
 
 -- which side takes which message: A the CONFIRM LINK, B the reply

@@ -1,41 +1,33 @@
 -- What the pipes post with an entry that moves ends alone is what the managers' ends post.
-use Rattle.std.proofs.Common.{◌≡◌, ◌∙◌, ℕ, ◌+◌, ◌-◌, ◌<◌, ◌==◌, not, Bool, true, false, if◌then◌else◌, List, [], ◌∷◌, ◌++◌, length, drop, map, filter, flat_map, refl, ap, sym, subst, append-nil, arith, true≢false}
+use Rattle.std.proofs.Common.{◌≡◌, ◌∙◌, ℕ, Bool, true, false, if◌then◌else◌, List, [], ◌∷◌, ◌++◌, flat_map, refl, ap, sym, append-nil}
 use Rattle.std.specs.Prelude.{Option, Some, None, option_map, unwrap_or}
 use Rattle.std.specs.Option.{option_or}
 use Rattle.smc_num.specs.declared.Side.{Side}
-use Rattle.smc_num.specs.declared.Side.TheVariants.{A, B}
 use Rattle.smc_num.specs.declared.LinkId.{LinkId}
 use Rattle.smc_num.specs.Names.{other, no_link}
 use Rattle.smc_num.specs.Places.{rmb_at}
 use Rattle.smc_num.specs.Keys.{Key, bound}
-use Rattle.clc_wire.specs.declared.offer.Offer.{Offer}
 use Rattle.rmb_region.specs.Regions.{Buffer}
 use Rattle.pipe_model.specs.declared.setup.Setup.{Setup}
 use Rattle.pipe_model.specs.declared.event.Event.{Event}
 use Rattle.pipe_model.specs.declared.reply.Reply.{Reply}
 use Rattle.pipe_model.specs.declared.post.Post.{Post}
 use Rattle.pipe_model.specs.declared.entry.Entry.{Entry}
-use Rattle.pipe_model.specs.declared.sent.Sent.{Sent}
 use Rattle.pipe_model.specs.Words.{element_size}
-use Rattle.pipe_model.specs.History.{Offered, offered}
+use Rattle.pipe_model.specs.History.{offered}
 use Rattle.pipe_model.specs.Ends.{Half, is_due, batch}
-use Rattle.pipe_model.specs.Pipe.{Item, half, pipe, posts_of}
-use Rattle.pipe_model.specs.Calls.{Told}
-use Rattle.pipe_model.specs.Connections.{is_up, named_link, group_on, items, part}
-use Rattle.pipe_model.specs.Lending.{Lending, terms_of, lent}
+use Rattle.pipe_model.specs.Connections.{is_up, named_link}
+use Rattle.pipe_model.specs.Lending.{Lending, lent}
 use Rattle.pipe_model.specs.Keys.{Keys, keys_of, book_of, last_bound}
-use Rattle.pipe_model.specs.Posts.{sent_posts, cdc_posts, end_posts, pipe_posts, is_offered, offered_sockets, connection_posts}
+use Rattle.pipe_model.specs.Posts.{sent_posts, cdc_posts, connection_posts}
 use Rattle.pipe_model.specs.Replies.{told}
 use Rattle.pipe_model.specs.Lawful.{reply_of, posted, asked}
-use Rattle.side_core.specs.Records.{Connection, conn_at}
-use Rattle.side_core.specs.Manager.{Manager}
-use Rattle.side_core.specs.Posting.{batch_posts, due_posts}
-use Rattle.side_core.specs.Acting.{key_to, due_from, due_at}
+use Rattle.side_core.specs.Records.{Connection}
+use Rattle.side_core.specs.Posting.{batch_posts}
+use Rattle.side_core.specs.Acting.{key_to, due_from}
 use Rattle.world_core.specs.OneLink.{the_link, the_key, the_keys}
 use Rattle.world_core.specs.Managers.{manager_of, desk_of, conn_of, end_of, lending_on, route_of}
-use Rattle.world_core.proofs.PipePosts.{met, flat-none}
 use Rattle.world_core.proofs.Idle.{is-up-where-due}
-use Rattle.world_core.proofs.KeptManagers.{conn-at}
 use Rattle.world_core.proofs.KeyedEnds.{KnowsEnds, UpFacts}
 
 -- an entry that asks for nothing posts what the pipes post

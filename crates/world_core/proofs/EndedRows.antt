@@ -1,10 +1,9 @@
 -- A lending ends: the row of its element is free again and no other changes, and one element more is free.
-use Rattle.std.proofs.Common.{◌≡◌, ◌∙◌, ℕ, ◌+◌, ◌<◌, ◌≤◌, ◌==◌, ◌&&◌, ◌||◌, not, Bool, true, false, cond, if◌then◌else◌, List, [], ◌∷◌, length, map, filter, refl, ap, sym, subst, suc, zero, arith, true≢false, eqb-true, ne_eqb}
+use Rattle.std.proofs.Common.{◌≡◌, ◌∙◌, ℕ, ◌+◌, ◌<◌, ◌≤◌, ◌==◌, ◌&&◌, ◌||◌, not, Bool, true, false, cond, if◌then◌else◌, List, [], ◌∷◌, length, map, filter, refl, ap, sym, suc, zero, arith, true≢false, eqb-true, ne_eqb}
 use Rattle.std.proofs.lemmas.Bool.{eqb-false}
 use Rattle.std.specs.Prelude.{Option, Some, None, option_map}
-use Rattle.std.specs.List.{find, list_any, range_with_len}
+use Rattle.std.specs.List.{list_any, range_with_len}
 use Rattle.std.proofs.lemmas.List.{append-nil}
-use Rattle.smc_num.specs.declared.Side.{Side}
 use Rattle.smc_num.specs.Places.{Place, same_place, all_places, is_free}
 use Rattle.element_ledger.specs.Lendings.{Row, fresh, changes_at, freed}
 use Rattle.pipe_model.specs.Lending.{Lending, lent_places}

@@ -1,6 +1,6 @@
 -- B takes the Confirm of later contact: its end hears the offer of A and is established, and posts what is due then.
-use Rattle.std.proofs.Common.{◌≡◌, ◌∙◌, ℕ, ◌+◌, ◌<◌, ◌==◌, ◌&&◌, ◌||◌, not, Bool, true, false, if◌then◌else◌, List, [], ◌∷◌, ◌++◌, length, drop, map, filter_map, flat_map, reverse, refl, ap, sym, subst, eq-eqb, eqb-true, append-nil, arith}
-use Rattle.std.specs.Prelude.{Option, Some, None, option_map, option_and_then, option_to_list, unwrap_or, slice_set, slice_index_or, is_some}
+use Rattle.std.proofs.Common.{◌≡◌, ◌∙◌, ℕ, ◌<◌, ◌==◌, ◌||◌, not, Bool, true, false, if◌then◌else◌, List, [], ◌∷◌, ◌++◌, length, drop, filter_map, flat_map, reverse, refl, ap, sym, subst, eq-eqb, eqb-true, append-nil, arith}
+use Rattle.std.specs.Prelude.{Option, Some, None, option_map, option_to_list, unwrap_or, slice_set, slice_index_or, is_some}
 use Rattle.std.specs.Option.{option_or}
 use Rattle.smc_num.specs.declared.Side.{Side}
 use Rattle.smc_num.specs.declared.Side.TheVariants.{A, B}
@@ -21,25 +21,25 @@ use Rattle.pipe_model.specs.declared.entry.Entry.{Entry}
 use Rattle.pipe_model.specs.declared.sent.Sent.{Sent as SentMessage}
 use Rattle.pipe_model.specs.Words.{element_size}
 use Rattle.pipe_model.specs.History.{Offered, offered}
-use Rattle.pipe_model.specs.Fabric.{Fabric, fabric, peer, act_in, group_of, table_of}
+use Rattle.pipe_model.specs.Fabric.{peer, act_in, group_of}
 use Rattle.pipe_model.specs.Ends.{Half, is_due, batch, settle, comes_up}
 use Rattle.pipe_model.specs.Pipe.{Item, Up, GroupEnd, half, pipe, posts_of, sent_since}
 use Rattle.pipe_model.specs.Connections.{EndState, WaitsConfirm, IsUp, is_up, early_state, end_state, after_loss, named_link, group_on, ups, fates, fate_of, group_end, items, part, comes_up as comes_up_with}
-use Rattle.pipe_model.specs.Keys.{Keys, keys_of, book_of, last_bound, book_clc}
+use Rattle.pipe_model.specs.Keys.{keys_of, book_of, last_bound, book_clc}
 use Rattle.pipe_model.specs.Lending.{Lending, lendings, lent, leaves_handshake, free_places, terms_of, lends_by}
 use Rattle.pipe_model.specs.Fallback.{Whole, front, is_raw}
 use Rattle.pipe_model.specs.Messages.{confirm_link, pair_on}
-use Rattle.pipe_model.specs.Posts.{sent_posts, cdc_posts, end_posts, pipe_posts, is_offered, offered_sockets, connection_posts, clc_posts}
+use Rattle.pipe_model.specs.Posts.{sent_posts, cdc_posts, end_posts, pipe_posts, is_offered, connection_posts, clc_posts}
 use Rattle.pipe_model.specs.Replies.{clc_step}
 use Rattle.pipe_model.specs.Lawful.{asked, front_posts}
 use Rattle.clc_handshake.specs.Stages.{Hand, after_confirm}
-use Rattle.side_core.specs.Records.{Connection, conn_at}
+use Rattle.side_core.specs.Records.{Connection}
 use Rattle.side_core.specs.Posting.{batch_posts}
 use Rattle.side_core.specs.Desk.{peer_key, learns_offer}
 use Rattle.side_core.specs.Manager.{Manager, hand_at, with_hand, no_hand}
 use Rattle.side_core.specs.Acting.{risen_at, risen_from}
-use Rattle.side_core.specs.Taking.{asks_link, hears, rises_at, with_desk}
-use Rattle.world_core.specs.OneLink.{the_link, the_key, the_keys, Stage, LiveAtBoth, fabric_at, IsAtStage}
+use Rattle.side_core.specs.Taking.{hears, rises_at, with_desk}
+use Rattle.world_core.specs.OneLink.{the_link, the_keys, LiveAtBoth}
 use Rattle.world_core.specs.Sockets.{IsWorld, on_link}
 use Rattle.world_core.specs.Played.{IsPlayed}
 use Rattle.world_core.specs.Agreement.{IsShaken}
@@ -47,20 +47,20 @@ use Rattle.world_core.specs.Managers.{manager_of, desk_of, hand_of, conn_of, end
 use Rattle.world_core.proofs.QuietEvents.{by-side, entry-of}
 use Rattle.world_core.proofs.QuietEntries.{one-fate, same-group, and-false}
 use Rattle.world_core.proofs.DataPosts.{connections-data}
-use Rattle.world_core.proofs.EntryItems.{below, items-are}
+use Rattle.world_core.proofs.EntryItems.{items-are}
 use Rattle.world_core.proofs.Parts.{part-open}
 use Rattle.world_core.proofs.PipePosts.{met}
 use Rattle.world_core.proofs.PipeSteps.{rests, sent-by}
 use Rattle.world_core.proofs.PlainPosts.{ArePlain, data-plain, offer-stays, lends-none, lendings-stay}
 use Rattle.world_core.proofs.StillEntries.{lent-stays, still-desk, keys-stay}
-use Rattle.world_core.proofs.SameManagers.{SameDesk, SameRoute, conn_from, route_from, same-desk, same-conn, same-spare}
+use Rattle.world_core.proofs.SameManagers.{SameDesk, SameRoute, route_from, same-desk, same-conn, same-spare}
 use Rattle.world_core.proofs.DuePosts.{last-known, known-key}
-use Rattle.world_core.proofs.KeptManagers.{by-parts, conn-at}
+use Rattle.world_core.proofs.KeptManagers.{by-parts}
 use Rattle.world_core.proofs.Lendings.{lendings-kept, lending-due}
 use Rattle.world_core.proofs.LinkManagers.{rise}
 use Rattle.world_core.proofs.ConfirmManagers.{set-set, get-set}
 use Rattle.world_core.proofs.Tables.{same-sockets, set-socket, at-socket, sockets-long}
-use Rattle.world_core.proofs.TakenAlone.{IsTakenBy, IsStep, taken-by, paths_of}
+use Rattle.world_core.proofs.TakenAlone.{IsTakenBy, taken-by}
 
 module _ (setup : Setup) (payload : List ℕ) (regions : List Buffer) (past : List Entry) (one : setup.links ≡ 1) (t0 s : ℕ) (world : IsWorld setup (LiveAtBoth t0) past) (lendings_are : HasLendings setup payload past) (actor n : ℕ) (posts : List Post)
     (known : s < setup.sockets) (o : Offer) (len : ℕ) (theirs_is : offered A s past ≡ on_link o) (named : named_link s past ≡ Some the_link) (first : o.first ≡ false) (rmb : rmb_at o.address ≡ 1) (state : end_state B s past ≡ WaitsConfirm) (down : is_up B s past ≡ false)

@@ -2,8 +2,8 @@
 use Rattle.std.specs.Option.{option_or}
 use Rattle.smc_num.specs.declared.LinkId.{LinkId}
 use Rattle.world_core.specs.Wired.{EachItem, keeps_open}
-use Rattle.std.proofs.Common.{◌≡◌, ◌∙◌, ℕ, ◌<◌, ◌==◌, ◌&&◌, ◌||◌, not, Bool, true, false, cond, if◌then◌else◌, List, [], ◌∷◌, ◌++◌, length, filter, refl, ap, sym, subst, eq-eqb, eqb-true, append-nil, true≢false}
-use Rattle.std.specs.Prelude.{Option, Some, None, option_map, unwrap_or, slice_set, slice_index_or, is_some, option_and_then}
+use Rattle.std.proofs.Common.{◌≡◌, ◌∙◌, ℕ, ◌<◌, ◌==◌, ◌||◌, not, Bool, true, false, cond, if◌then◌else◌, List, [], ◌∷◌, ◌++◌, length, filter, refl, ap, sym, subst, eq-eqb, eqb-true, append-nil}
+use Rattle.std.specs.Prelude.{Some, None, option_map, unwrap_or, slice_set, is_some, option_and_then}
 use Rattle.std.specs.List.{find}
 use Rattle.smc_num.specs.declared.Side.{Side}
 use Rattle.smc_num.specs.declared.Side.TheVariants.{A, B}
@@ -12,29 +12,27 @@ use Rattle.rmb_region.specs.Regions.{Buffer}
 use Rattle.pipe_model.specs.declared.setup.Setup.{Setup}
 use Rattle.pipe_model.specs.declared.event.Event.TheVariants.{Clc}
 use Rattle.pipe_model.specs.declared.reply.Reply.{Reply}
-use Rattle.pipe_model.specs.declared.reply.Reply.TheVariants.{Declined, FellBack}
-use Rattle.pipe_model.specs.declared.reply.Lack.{Lack}
 use Rattle.pipe_model.specs.declared.post.Post.{Post}
 use Rattle.pipe_model.specs.declared.entry.Entry.{Entry}
 use Rattle.pipe_model.specs.History.{Offered, offered}
 use Rattle.pipe_model.specs.Fabric.{fabric, act_in, act_by, group_of, peer, Act}
 use Rattle.pipe_model.specs.Ends.{Half}
-use Rattle.pipe_model.specs.Connections.{EndState, HasFallen, IsUp, is_up, early_state, end_state, after_event, after_loss, named_link, group_on, up_by, items, part, confirmed_by}
+use Rattle.pipe_model.specs.Connections.{EndState, HasFallen, IsUp, is_up, early_state, end_state, after_event, after_loss, group_on, up_by, items, part, confirmed_by}
 use Rattle.pipe_model.specs.Keys.{book_of, book_clc}
-use Rattle.pipe_model.specs.Lending.{Lending, lendings, lends, lent, returns, leaves_handshake, free_places}
+use Rattle.pipe_model.specs.Lending.{Lending, lendings, lent, returns, leaves_handshake, free_places}
 use Rattle.pipe_model.specs.Fallback.{is_raw}
 use Rattle.pipe_model.specs.Posts.{connection_posts}
 use Rattle.pipe_model.specs.Lawful.{asked}
 use Rattle.clc_handshake.specs.Stages.{Hand}
 use Rattle.side_core.specs.Records.{Connection}
-use Rattle.side_core.specs.Manager.{Manager, with_hand, hand_at, no_hand}
-use Rattle.world_core.specs.OneLink.{Stage, fabric_at}
+use Rattle.side_core.specs.Manager.{with_hand, hand_at, no_hand}
+use Rattle.world_core.specs.OneLink.{Stage}
 use Rattle.world_core.specs.Sockets.{IsWorld}
 use Rattle.world_core.specs.Played.{IsPlayed}
 use Rattle.world_core.specs.Agreement.{IsShaken}
-use Rattle.world_core.specs.Managers.{manager_of, desk_of, hand_of, conn_of, end_of, route_of, each_socket, lending_on, heard_on, awaits_confirm, keeps_element, HasLendings}
+use Rattle.world_core.specs.Managers.{manager_of, desk_of, hand_of, conn_of, end_of, route_of, each_socket, lending_on, awaits_confirm, keeps_element, HasLendings}
 use Rattle.world_core.proofs.QuietEvents.{by-side, entry-of}
-use Rattle.world_core.proofs.QuietEntries.{only-deeds, same-group, all-stay}
+use Rattle.world_core.proofs.QuietEntries.{only-deeds, same-group}
 use Rattle.world_core.proofs.Parts.{part-open}
 use Rattle.world_core.proofs.PlainPosts.{ArePlain, offer-stays, lends-none, lendings-stay}
 use Rattle.world_core.proofs.StillEntries.{silent-pipes, end-stays, lent-stays, returns-by, still-desk}

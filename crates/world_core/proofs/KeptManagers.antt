@@ -1,7 +1,7 @@
 -- Where two histories show the same, a manager keeps the same; where they show the same but for the end of one socket, just that
 -- end differs.
-use Rattle.std.proofs.Common.{◌≡◌, ◌∙◌, ℕ, ◌<◌, ◌==◌, Bool, true, false, List, length, refl, ap, sym}
-use Rattle.std.specs.Prelude.{Option, Some, None, option_map, slice_index_or, slice_set}
+use Rattle.std.proofs.Common.{◌≡◌, ◌∙◌, ℕ, ◌<◌, ◌==◌, false, List, length, ap, sym}
+use Rattle.std.specs.Prelude.{Option, None, option_map, slice_index_or, slice_set}
 use Rattle.smc_num.specs.declared.Side.{Side}
 use Rattle.rmb_region.specs.Regions.{Buffer}
 use Rattle.pipe_model.specs.declared.setup.Setup.{Setup}
@@ -9,11 +9,11 @@ use Rattle.pipe_model.specs.declared.entry.Entry.{Entry}
 use Rattle.pipe_model.specs.Ends.{Half, settle}
 use Rattle.pipe_model.specs.Lending.{Lending, lendings, free_places, terms_of}
 use Rattle.clc_handshake.specs.Stages.{Hand}
-use Rattle.side_core.specs.Records.{Connection, Records, conn_at, changes}
+use Rattle.side_core.specs.Records.{Connection, conn_at}
 use Rattle.side_core.specs.Desk.{Desk}
 use Rattle.side_core.specs.Manager.{Manager}
 use Rattle.side_core.specs.Acting.{acts_at}
-use Rattle.world_core.specs.Managers.{manager_of, desk_of, records_of, hand_of, conn_of, end_of, each_socket, changes_end}
+use Rattle.world_core.specs.Managers.{manager_of, desk_of, hand_of, conn_of, end_of, each_socket, changes_end}
 use Rattle.world_core.proofs.Tables.{same-sockets, set-socket, at-socket}
 use Rattle.world_core.proofs.SameManagers.{SameDesk, SameSocket, same-desk, same-hand, same-conn, acted-conn, same-spare}
 

@@ -1,20 +1,19 @@
 -- What is known of an end that is up: its lending, its peer's offer, and the key under which it writes.
-use Rattle.std.proofs.Common.{◌≡◌, ◌∙◌, ℕ, ◌==◌, ◌⊎◌, inl, inr, Bool, true, false, if◌then◌else◌, List, [], ◌∷◌, refl, ap, sym, subst, true≢false}
+use Rattle.std.proofs.Common.{◌≡◌, ◌∙◌, ℕ, ◌==◌, ◌⊎◌, inl, inr, Bool, true, false, if◌then◌else◌, List, [], ◌∷◌, refl, ap, sym, true≢false}
 use Rattle.std.specs.Prelude.{Option, Some, None, option_map}
 use Rattle.smc_num.specs.declared.Side.{Side}
 use Rattle.smc_num.specs.declared.Side.TheVariants.{A, B}
 use Rattle.smc_num.specs.Names.{other}
 use Rattle.smc_num.specs.Places.{rmb_at}
-use Rattle.smc_num.specs.Keys.{Key, bound}
 use Rattle.clc_wire.specs.declared.offer.Offer.{Offer}
 use Rattle.pipe_model.specs.declared.setup.Setup.{Setup}
 use Rattle.pipe_model.specs.declared.entry.Entry.{Entry}
 use Rattle.pipe_model.specs.History.{Offered, offered}
-use Rattle.pipe_model.specs.Connections.{EndState, IsUp, named_link, is_up, early_state, end_state}
+use Rattle.pipe_model.specs.Connections.{IsUp, named_link, is_up, early_state}
 use Rattle.pipe_model.specs.Lending.{Lending, lent}
-use Rattle.pipe_model.specs.Keys.{Keys, keys_of, book_of, last_bound}
+use Rattle.pipe_model.specs.Keys.{keys_of, book_of}
 use Rattle.world_core.specs.OneLink.{the_link, the_key, the_keys, Stage, NoLink, Begun, Made, Asking, LiveAtA, LiveAtBoth, keys_at, book_at}
-use Rattle.world_core.specs.Sockets.{Socket, Unopened, Fallen, Proposed, Refused, FirstAccepted, FirstConfirmed, AwaitsLink, FirstUpAtA, FirstUp, Accepted, AcceptRefused, AcceptFallen, Confirmed, Up, up_at, offered_at, on_link, is_first, is_unoffered, first_step, suits, StandsAt, HasSocket, IsWorld}
+use Rattle.world_core.specs.Sockets.{Socket, Unopened, Fallen, Proposed, Refused, FirstAccepted, FirstConfirmed, AwaitsLink, FirstUpAtA, FirstUp, Accepted, AcceptRefused, AcceptFallen, Confirmed, Up, up_at, offered_at, on_link, is_unoffered, first_step, suits, IsWorld}
 use Rattle.world_core.specs.Managers.{end_of, heard_on, awaits_confirm, lending_on}
 
 -- that the ends are those that the pipes say, and that an element is lent to each that is up

@@ -1,14 +1,12 @@
 -- What is taken from links, sockets, wires and pipes, for an entry of a played history that moves ends alone.
-use Rattle.std.proofs.Common.{◌≡◌, ◌∙◌, ℕ, ◌==◌, ◌&&◌, Bool, true, false, if◌then◌else◌, List, [], ◌∷◌, ◌++◌, length, refl, ap, sym, subst}
-use Rattle.std.specs.Prelude.{Option, Some, None}
+use Rattle.std.proofs.Common.{◌≡◌, ◌∙◌, ℕ, true, false, List, [], ◌∷◌, sym, subst}
+use Rattle.std.specs.Prelude.{Some}
 use Rattle.smc_num.specs.declared.Side.{Side}
-use Rattle.smc_num.specs.declared.Side.TheVariants.{A, B}
 use Rattle.pipe_model.specs.declared.setup.Setup.{Setup}
 use Rattle.pipe_model.specs.declared.entry.Entry.{Entry}
 use Rattle.pipe_model.specs.declared.post.Post.{Post}
 use Rattle.pipe_model.specs.Connections.{is_up, group_on, part}
 use Rattle.pipe_model.specs.Lending.{Lending, lent, leaves_handshake, terms_of}
-use Rattle.pipe_model.specs.Posts.{connection_posts}
 use Rattle.pipe_model.specs.Lawful.{asked}
 use Rattle.world_core.specs.OneLink.{Stage, the_link}
 use Rattle.world_core.specs.Sockets.{IsWorld}

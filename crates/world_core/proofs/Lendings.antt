@@ -5,10 +5,10 @@ use Rattle.smc_num.specs.declared.Side.{Side}
 use Rattle.pipe_model.specs.declared.setup.Setup.{Setup}
 use Rattle.pipe_model.specs.declared.entry.Entry.{Entry}
 use Rattle.pipe_model.specs.History.{Offered, offered}
-use Rattle.pipe_model.specs.Connections.{IsUp, is_up, early_state, end_state}
+use Rattle.pipe_model.specs.Connections.{IsUp, early_state, end_state}
 use Rattle.pipe_model.specs.Lending.{Lending, lends_by, lent}
 use Rattle.world_core.specs.OneLink.{Stage, the_link}
-use Rattle.world_core.specs.Sockets.{IsWorld, on_link}
+use Rattle.world_core.specs.Sockets.{IsWorld}
 use Rattle.world_core.specs.Managers.{HasLendings, keeps_element, lending_due, lending_on}
 use Rattle.world_core.proofs.KeyedEnds.{behind}
 use Rattle.world_core.proofs.KnownEntries.{LentToUp}

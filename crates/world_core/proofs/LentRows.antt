@@ -1,6 +1,6 @@
 -- The rows of a side's elements beside its lendings: which are free, which is the lowest free one, and so by which facts a message is judged.
-use Rattle.std.proofs.Common.{◌≡◌, ◌∙◌, ℕ, ◌<◌, ◌==◌, ◌&&◌, ◌||◌, not, Bool, true, false, cond, if◌then◌else◌, List, [], ◌∷◌, length, map, filter, refl, ap, sym, suc}
-use Rattle.std.specs.Prelude.{Option, Some, None, option_map, is_some, unwrap_or, slice_index_or}
+use Rattle.std.proofs.Common.{◌≡◌, ◌∙◌, ℕ, ◌<◌, ◌||◌, not, Bool, true, false, cond, List, [], ◌∷◌, length, map, filter, refl, ap, sym, suc}
+use Rattle.std.specs.Prelude.{Option, Some, None, option_map, is_some}
 use Rattle.std.specs.List.{find, list_any}
 use Rattle.smc_num.specs.declared.Side.{Side}
 use Rattle.smc_num.specs.Names.{head, has, up_to}
@@ -17,11 +17,11 @@ use Rattle.pipe_model.specs.Connections.{end_state}
 use Rattle.pipe_model.specs.Lending.{Lending, lendings, lent, lent_places, free_places}
 use Rattle.pipe_model.specs.Fallback.{is_raw}
 use Rattle.pipe_model.specs.Keys.{keys_of}
-use Rattle.pipe_model.specs.Handshake.{verdict, lacks, slots_up, is_ready}
+use Rattle.pipe_model.specs.Handshake.{verdict, lacks, slots_up}
 use Rattle.pipe_model.specs.Replies.{clc_step}
 use Rattle.clc_handshake.specs.Stages.{Hand}
-use Rattle.side_core.specs.Desk.{Desk, free_place, lacks_of}
-use Rattle.side_core.specs.Manager.{Manager, no_hand}
+use Rattle.side_core.specs.Desk.{free_place, lacks_of}
+use Rattle.side_core.specs.Manager.{no_hand}
 use Rattle.side_core.specs.Taking.{verdict_at}
 use Rattle.world_core.specs.Managers.{manager_of, desk_of, hand_of, row_of, rows_of, lent_to, lending_at, epoch_in}
 use Rattle.world_core.proofs.Tables.{at-socket}

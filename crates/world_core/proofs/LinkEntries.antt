@@ -1,5 +1,5 @@
 -- CONFIRM LINK lands at A, and the reply to it at B: each is what a manager does with it.
-use Rattle.std.proofs.Common.{◌≡◌, ◌∙◌, ℕ, ◌<◌, ◌==◌, Bool, true, false, if◌then◌else◌, List, [], ◌∷◌, ◌++◌, filter_map, drop, refl, ap, sym, subst, append-nil}
+use Rattle.std.proofs.Common.{◌≡◌, ◌∙◌, ℕ, ◌<◌, Bool, true, false, if◌then◌else◌, List, [], ◌∷◌, ◌++◌, refl, ap, sym, subst}
 use Rattle.std.specs.Prelude.{Option, Some, None, option_map}
 use Rattle.smc_num.specs.declared.Side.{Side}
 use Rattle.smc_num.specs.declared.Side.TheVariants.{A, B}
@@ -17,21 +17,20 @@ use Rattle.pipe_model.specs.declared.entry.Entry.{Entry}
 use Rattle.pipe_model.specs.History.{Offered, offered, post_at, is_cdc}
 use Rattle.pipe_model.specs.Words.{passes}
 use Rattle.pipe_model.specs.Pipe.{Lands}
-use Rattle.pipe_model.specs.Fabric.{Act, act_of, act_in}
+use Rattle.pipe_model.specs.Fabric.{act_of}
 use Rattle.pipe_model.specs.Wires.{landing, unlanded}
-use Rattle.pipe_model.specs.Connections.{EndState, after_event, up_by, end_state, deeds, names_cdc}
+use Rattle.pipe_model.specs.Connections.{EndState, after_event, up_by, deeds, names_cdc}
 use Rattle.pipe_model.specs.Lending.{lends_by, leaves_handshake}
 use Rattle.pipe_model.specs.Messages.{pair_on, confirm_link}
 use Rattle.pipe_model.specs.Posts.{connection_posts}
 use Rattle.pipe_model.specs.Lawful.{asked, act_posts}
-use Rattle.side_core.specs.Acting.{confirms_link, confirming_posts, confirm_reply, risen_at, link_lives}
-use Rattle.world_core.specs.OneLink.{the_link, Stage, Asking, LiveAtA, LiveAtBoth, keys_at, IsAtStage, llc_of, llc_in, waiting_at}
+use Rattle.side_core.specs.Acting.{confirms_link, confirming_posts, confirm_reply}
+use Rattle.world_core.specs.OneLink.{the_link, Stage, Asking, LiveAtA, llc_of}
 use Rattle.world_core.specs.Sockets.{IsWorld}
-use Rattle.world_core.specs.Views.{AreData}
 use Rattle.world_core.specs.Played.{IsPlayed}
 use Rattle.world_core.specs.Agreement.{IsShaken}
 use Rattle.world_core.specs.Managers.{manager_of, first_on, awaits_confirm, keeps_element, HasLendings}
-use Rattle.world_core.proofs.Confirmations.{request, answer, act-a, act-b, world-at-a, world-at-b}
+use Rattle.world_core.proofs.Confirmations.{act-a, act-b, world-at-a, world-at-b}
 use Rattle.world_core.proofs.DataPosts.{connections-data, shows-plus}
 use Rattle.world_core.proofs.InHistory.{first-waiting-in}
 use Rattle.world_core.proofs.Landings.{lands-made, first-llc}

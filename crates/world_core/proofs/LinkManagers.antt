@@ -3,50 +3,42 @@
 use Rattle.smc_num.specs.Keys.{Key}
 use Rattle.pipe_model.specs.Keys.{keys_of, book_of}
 use Rattle.element_ledger.specs.Lendings.{Row}
-use Rattle.std.proofs.Common.{◌≡◌, ◌∙◌, ℕ, ◌+◌, ◌<◌, ◌==◌, ◌&&◌, ◌||◌, not, Bool, true, false, if◌then◌else◌, List, [], ◌∷◌, ◌++◌, length, map, flat_map, refl, ap, sym, subst, eqb-true, append-nil, arith}
-use Rattle.std.specs.Prelude.{Option, Some, None, option_map, unwrap_or, slice_set, slice_index_or, is_some}
+use Rattle.std.proofs.Common.{◌≡◌, ◌∙◌, ℕ, ◌<◌, ◌==◌, ◌||◌, Bool, true, false, if◌then◌else◌, List, [], ◌∷◌, ◌++◌, map, refl, ap, sym}
+use Rattle.std.specs.Prelude.{None, option_map, unwrap_or, slice_set, slice_index_or, is_some}
 use Rattle.smc_num.specs.declared.Side.{Side}
-use Rattle.smc_num.specs.declared.Side.TheVariants.{A, B}
+use Rattle.smc_num.specs.declared.Side.TheVariants.{B}
 use Rattle.smc_num.specs.declared.LinkId.{LinkId}
 use Rattle.smc_num.specs.declared.LinkPhase.TheVariants.{Live as LiveLink}
-use Rattle.smc_num.specs.Names.{other, no_link, up_to}
+use Rattle.smc_num.specs.Names.{other, up_to}
 use Rattle.rmb_region.specs.Regions.{Buffer}
 use Rattle.pipe_model.specs.declared.setup.Setup.{Setup}
-use Rattle.pipe_model.specs.declared.event.Event.TheVariants.{Deliver}
-use Rattle.pipe_model.specs.declared.reply.Reply.TheVariants.{Landed}
-use Rattle.pipe_model.specs.declared.flow.FlowStep.TheVariants.{Live}
-use Rattle.pipe_model.specs.declared.post.Post.{Post}
-use Rattle.pipe_model.specs.declared.post.PostRef.{PostRef}
 use Rattle.pipe_model.specs.declared.entry.Entry.{Entry}
-use Rattle.pipe_model.specs.History.{Offered, offered}
+use Rattle.pipe_model.specs.History.{Offered}
 use Rattle.pipe_model.specs.Fabric.{fabric, act_in}
 use Rattle.pipe_model.specs.Ends.{Half, settle, comes_up, meets_fate}
 use Rattle.pipe_model.specs.Pipe.{Item, Fate, Up, half, pipe}
-use Rattle.pipe_model.specs.Connections.{IsUp, WaitsLink, is_up, early_state, end_state, comes_up as comes_up_with, named_link, group_on, items, part}
-use Rattle.pipe_model.specs.Lending.{Lending, lends_by, lendings, lent, free_places, leaves_handshake, terms_of}
+use Rattle.pipe_model.specs.Connections.{IsUp, is_up, early_state, end_state, group_on, part}
+use Rattle.pipe_model.specs.Lending.{Lending, lendings, lent, leaves_handshake, terms_of}
 use Rattle.pipe_model.specs.Fallback.{is_raw}
 use Rattle.pipe_model.specs.Messages.{act_pair, pair_on, serial}
 use Rattle.clc_handshake.specs.Stages.{Hand}
 use Rattle.pipe_model.specs.Posts.{groups_begun}
-use Rattle.side_core.specs.Records.{Connection, conn_at}
+use Rattle.side_core.specs.Records.{Connection}
 use Rattle.side_core.specs.Desk.{most_slots, goes_live}
-use Rattle.side_core.specs.Manager.{Manager, no_hand}
-use Rattle.side_core.specs.Acting.{confirms_link}
+use Rattle.side_core.specs.Manager.{no_hand}
 use Rattle.world_core.specs.OneLink.{the_link, Stage, fabric_at, groups_at, keys_at, book_at, IsAtStage}
-use Rattle.world_core.specs.Sockets.{IsWorld, on_link}
+use Rattle.world_core.specs.Sockets.{IsWorld}
 use Rattle.world_core.specs.Played.{IsPlayed}
 use Rattle.world_core.specs.Agreement.{IsShaken}
-use Rattle.world_core.specs.Managers.{manager_of, desk_of, hand_of, conn_of, end_of, route_of, rows_of, first_on, heard_on, awaits_confirm, each_socket, lending_on, HasLendings, keeps_element}
-use Rattle.world_core.proofs.QuietEvents.{by-side, entry-of}
+use Rattle.world_core.specs.Managers.{desk_of, hand_of, conn_of, end_of, route_of, rows_of, first_on, each_socket, lending_on, HasLendings}
 use Rattle.world_core.proofs.PipeSteps.{risen, risen-other}
 use Rattle.world_core.proofs.Parts.{part-open, up-is}
 use Rattle.world_core.proofs.PlainPosts.{ArePlain, offer-stays, lends-none, lendings-stay, pairs-stay, serial-stays, first-stays}
 use Rattle.world_core.proofs.StillEntries.{lent-stays}
-use Rattle.world_core.proofs.SameManagers.{SameRoute, desk_from, same-conn, same-spare, same-rows, rows_from}
-use Rattle.world_core.proofs.KeptManagers.{by-parts}
-use Rattle.world_core.proofs.Tables.{same-sockets, set-socket, at-socket, map-alike}
-use Rattle.world_core.proofs.Lendings.{no-lending-due, lending-due, lendings-kept}
-use Rattle.world_core.proofs.Confirming.{Confirming, IsConfirming, IsWaiting, desk-lives, desk-other, group-stays, up-now, no-up-else, no-up-other, early-stays, items-first, items-else, is-waiting}
+use Rattle.world_core.proofs.SameManagers.{desk_from, rows_from}
+use Rattle.world_core.proofs.Tables.{same-sockets, set-socket, at-socket}
+use Rattle.world_core.proofs.Lendings.{no-lending-due}
+use Rattle.world_core.proofs.Confirming.{Confirming, IsConfirming, IsWaiting, desk-lives, desk-other, group-stays, up-now, no-up-else, no-up-other, early-stays, items-first, is-waiting}
 
 -- a connection hears that the link is live
 abbrev pub hear : Connection Half → Connection Half

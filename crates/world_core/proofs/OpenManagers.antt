@@ -2,8 +2,8 @@
 use Rattle.smc_num.specs.declared.LinkId.{LinkId}
 use Rattle.pipe_model.specs.declared.reply.Lack.TheVariants.{NotCapable}
 use Rattle.pipe_model.specs.Keys.{book_clc, book_of}
-use Rattle.std.proofs.Common.{◌≡◌, ◌∙◌, ℕ, ◌<◌, ◌==◌, ◌&&◌, ◌||◌, not, Bool, true, false, if◌then◌else◌, List, [], ◌∷◌, ◌++◌, refl, ap, sym, subst, eq-eqb, eqb-true, append-nil, true≢false, length}
-use Rattle.std.specs.Prelude.{Option, Some, None, option_map, unwrap_or, slice_set, slice_index_or}
+use Rattle.std.proofs.Common.{◌≡◌, ◌∙◌, ℕ, ◌==◌, ◌&&◌, ◌||◌, not, Bool, true, false, if◌then◌else◌, List, [], ◌∷◌, ◌++◌, refl, ap, sym, subst, eq-eqb, eqb-true, append-nil, true≢false, length}
+use Rattle.std.specs.Prelude.{None, option_map, unwrap_or, slice_set, slice_index_or}
 use Rattle.smc_num.specs.declared.Side.{Side}
 use Rattle.smc_num.specs.declared.Side.TheVariants.{A, B}
 use Rattle.smc_num.specs.Names.{other}
@@ -15,28 +15,25 @@ use Rattle.pipe_model.specs.declared.reply.Reply.TheVariants.{NameUsed, Declined
 use Rattle.pipe_model.specs.declared.reply.Lack.{Lack}
 use Rattle.pipe_model.specs.declared.post.Post.{Post}
 use Rattle.pipe_model.specs.declared.entry.Entry.{Entry}
-use Rattle.pipe_model.specs.Words.{element_size}
 use Rattle.pipe_model.specs.History.{Offered, offered}
-use Rattle.pipe_model.specs.Fabric.{fabric, act_in, peer, act_by, group_of}
-use Rattle.pipe_model.specs.Ends.{Half}
-use Rattle.pipe_model.specs.Connections.{EndState, NoEnd, WaitsAnswer, WaitsProposal, IsUp, HasFallen, is_up, early_state, end_state, after_event, after_loss, named_link, group_on, comes_up, up_by, items, part}
-use Rattle.pipe_model.specs.Lending.{lends, lent, leaves_handshake, lendings, free_places, Lending}
+use Rattle.pipe_model.specs.Fabric.{fabric, act_in, act_by, group_of}
+use Rattle.pipe_model.specs.Connections.{EndState, NoEnd, IsUp, HasFallen, is_up, early_state, end_state, after_event, after_loss, group_on, up_by, items}
+use Rattle.pipe_model.specs.Lending.{lent, leaves_handshake, lendings, free_places, Lending}
 use Rattle.pipe_model.specs.Fallback.{is_raw, is_opened}
 use Rattle.pipe_model.specs.Posts.{proposal_post, connection_posts}
 use Rattle.pipe_model.specs.Replies.{open_told}
-use Rattle.pipe_model.specs.Lawful.{asked, posted, reply_of}
+use Rattle.pipe_model.specs.Lawful.{asked}
 use Rattle.clc_handshake.specs.Stages.{Hand, first_state}
-use Rattle.side_core.specs.Manager.{Manager, with_hand}
+use Rattle.side_core.specs.Manager.{with_hand}
 use Rattle.world_core.specs.OneLink.{Stage, fabric_at}
-use Rattle.world_core.specs.Sockets.{Socket, Unopened, IsWorld, StandsAt, opened_at, up_at, early_at, HasSocket}
+use Rattle.world_core.specs.Sockets.{Socket, Unopened, IsWorld, opened_at, up_at, early_at, HasSocket}
 use Rattle.world_core.specs.Played.{IsPlayed}
 use Rattle.world_core.specs.Agreement.{IsShaken}
-use Rattle.world_core.specs.Managers.{manager_of, hand_of, awaits_confirm, heard_on, conn_of, each_socket, desk_of}
-use Rattle.world_core.proofs.DataPosts.{connections-data}
+use Rattle.world_core.specs.Managers.{manager_of, hand_of, awaits_confirm, conn_of, each_socket, desk_of}
 use Rattle.world_core.proofs.QuietEvents.{by-side, entry-of}
 use Rattle.world_core.proofs.QuietEntries.{only-deeds, same-group}
 use Rattle.world_core.proofs.Parts.{part-open}
-use Rattle.world_core.proofs.PlainPosts.{ArePlain, data-plain, plain-append, offer-stays, lends-none, lendings-stay}
+use Rattle.world_core.proofs.PlainPosts.{ArePlain, offer-stays, lends-none, lendings-stay}
 use Rattle.world_core.proofs.StillEntries.{silent-pipes, end-stays, lent-stays, still-desk}
 use Rattle.world_core.proofs.SameManagers.{SameDesk, SameRoute, same-desk, same-conn, same-spare}
 use Rattle.world_core.proofs.KeptManagers.{by-parts}

@@ -1,6 +1,5 @@
 -- What one item makes of each end of a pipe.
-use Rattle.std.proofs.Common.{◌≡◌, ◌∙◌, ℕ, ◌+◌, ◌&&◌, not, nat_lt, Bool, true, false, if◌then◌else◌, List, [], ◌∷◌, ◌++◌, length, drop, refl, ap, sym}
-use Rattle.std.specs.Prelude.{Option, Some, None}
+use Rattle.std.proofs.Common.{◌≡◌, ◌∙◌, ℕ, ◌&&◌, not, nat_lt, Bool, true, false, if◌then◌else◌, List, [], ◌∷◌, ◌++◌, length, drop, refl, ap}
 use Rattle.std.proofs.Math.Seq.{drop-append_seam}
 use Rattle.smc_num.specs.declared.Side.{Side}
 use Rattle.smc_num.specs.declared.Side.TheVariants.{A, B}
@@ -12,7 +11,7 @@ use Rattle.pipe_model.specs.Closing.{is_group_gone}
 use Rattle.pipe_model.specs.declared.sent.Sent.{Sent}
 use Rattle.pipe_model.specs.Ends.{Half, comes_up, meets_fate, present, settle, is_due, posts_batch, batch, takes, completes, lands, to_land, to_complete}
 use Rattle.pipe_model.specs.Calls.{Call, calls}
-use Rattle.pipe_model.specs.Pipe.{Pipe, Terms, Item, Up, Fate, Calls, Lands, Completes, half, pipe, step, sent_since}
+use Rattle.pipe_model.specs.Pipe.{Terms, Item, Up, Fate, Calls, Lands, Completes, half, pipe, sent_since}
 use Rattle.pipe_model.proofs.Settled.{nothing-due}
 
 -- nothing is due at the end of a part

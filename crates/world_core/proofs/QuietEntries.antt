@@ -1,12 +1,11 @@
 -- An entry that moves neither links nor sockets nor lendings: all that a side's manager keeps stays, its ends apart, and the items
 -- that it gives a connection are its deeds.
-use Rattle.std.proofs.Common.{◌≡◌, ◌∙◌, ℕ, ◌+◌, ◌==◌, ◌&&◌, ◌||◌, not, Bool, true, false, cond, if◌then◌else◌, List, [], ◌∷◌, ◌++◌, length, map, filter, filter_map, reverse, refl, ap, sym, subst, arith, append-nil}
-use Rattle.std.specs.Prelude.{Option, Some, None, option_map, option_and_then, option_to_list, unwrap_or, is_some}
+use Rattle.std.proofs.Common.{◌≡◌, ◌∙◌, ℕ, ◌+◌, ◌==◌, ◌&&◌, ◌||◌, not, Bool, true, false, cond, if◌then◌else◌, List, [], ◌∷◌, ◌++◌, map, filter, filter_map, reverse, refl, ap, arith, append-nil}
+use Rattle.std.specs.Prelude.{None, option_map, option_and_then, option_to_list, unwrap_or}
 use Rattle.std.specs.Option.{option_or}
 use Rattle.smc_num.specs.declared.Side.{Side}
 use Rattle.smc_num.specs.declared.Side.TheVariants.{A, B}
 use Rattle.smc_num.specs.declared.LinkId.{LinkId}
-use Rattle.cdc_wire.specs.declared.CdcMessage.{CdcMessage}
 use Rattle.smc_num.specs.Names.{at_side, other, head, up_to}
 use Rattle.pipe_model.specs.declared.setup.Setup.{Setup}
 use Rattle.pipe_model.specs.declared.event.Event.{Event}
@@ -18,10 +17,10 @@ use Rattle.pipe_model.specs.declared.post.Post.{Post}
 use Rattle.pipe_model.specs.declared.post.Post.TheVariants.{Write, Cdc, Llc, Clc}
 use Rattle.pipe_model.specs.declared.entry.Entry.{Entry}
 use Rattle.pipe_model.specs.History.{Offered, offered}
-use Rattle.pipe_model.specs.Fabric.{Fabric, Act, fabric, peer, group_of, table_of, act_in, loses_group_with}
+use Rattle.pipe_model.specs.Fabric.{Act, fabric, peer, group_of, table_of, act_in, loses_group_with}
 use Rattle.pipe_model.specs.Ends.{is_over}
 use Rattle.pipe_model.specs.Pipe.{Item, Up, GroupEnd, half, pipe}
-use Rattle.pipe_model.specs.Connections.{EndState, IsUp, named_link, group_on, is_up, early_state, end_state, comes_up, up_by, confirmed_by, fate_of, fates, ups, group_end, deeds, items, part}
+use Rattle.pipe_model.specs.Connections.{IsUp, group_on, is_up, early_state, end_state, up_by, confirmed_by, fate_of, fates, ups, group_end, deeds, items, part}
 use Rattle.pipe_model.specs.Lending.{Lending, lends, lent, returns, leaves_handshake, terms_of, pipe_of}
 use Rattle.pipe_model.specs.Messages.{asked_pair, pair_in, pair_number, first_pair, act_pair, new_pair, serial, pair_on}
 use Rattle.side_core.specs.Desk.{most_slots}

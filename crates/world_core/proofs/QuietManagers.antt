@@ -1,5 +1,5 @@
 -- Each event of a world of one link that moves ends alone, and what it makes of the two managers and what is posted.
-use Rattle.std.proofs.Common.{◌≡◌, ◌∙◌, ℕ, ◌+◌, ◌<◌, ◌==◌, ◌&&◌, Bool, true, false, if◌then◌else◌, List, [], ◌∷◌, ◌++◌, take, drop, refl, ap, sym, subst}
+use Rattle.std.proofs.Common.{◌≡◌, ◌∙◌, ℕ, ◌==◌, ◌&&◌, Bool, true, false, if◌then◌else◌, List, [], ◌∷◌, take, drop, refl, ap, sym, subst}
 use Rattle.std.specs.Prelude.{Option, Some, None, option_map, is_some}
 use Rattle.smc_num.specs.declared.Side.{Side}
 use Rattle.smc_num.specs.declared.Side.TheVariants.{A, B}
@@ -46,7 +46,7 @@ use Rattle.world_core.proofs.InHistory.{first-waiting-in}
 use Rattle.world_core.specs.Managers.{end_of}
 use Rattle.world_core.proofs.Moves.{IsQuiet}
 use Rattle.world_core.proofs.QuietEvents.{by-side, entry-of, quiet-write, quiet-read, quiet-complete, quiet-name, quiet-idle-clc, quiet-held-clc, quiet-idle-landing}
-use Rattle.world_core.proofs.QuietEntries.{IsCalm, bare}
+use Rattle.world_core.proofs.QuietEntries.{IsCalm}
 use Rattle.world_core.proofs.KeyedEnds.{KnowsEnds, up-facts}
 use Rattle.world_core.proofs.CallEntries.{IsCalled, IsNothing, nothing-done, is-called, not-called}
 use Rattle.world_core.proofs.WireEntries.{IsMessage, IsTaken, IsDone, message-lands, message-completes, not-message}

@@ -13,12 +13,10 @@ use Rattle.world_core.specs.Lent.{HavePlaces}
 use Rattle.clc_wire.specs.declared.offer.Offer.{Offer}
 use Rattle.clc_wire.specs.declared.refusal.Refusal.{Refusal}
 use Rattle.pipe_model.specs.Words.{rmbs_of, elements_of}
-use Rattle.std.specs.Option.{option_or}
 use Rattle.smc_num.specs.declared.LinkId.{LinkId}
 use Rattle.world_core.specs.Wired.{EachItem, keeps_open}
-use Rattle.std.proofs.Common.{◌≡◌, ◌∙◌, ℕ, ◌+◌, ◌<◌, ◌==◌, ◌&&◌, ◌||◌, not, Bool, true, false, cond, if◌then◌else◌, List, [], ◌∷◌, ◌++◌, length, filter, refl, ap, sym, subst, eq-eqb, eqb-true, append-nil, true≢false, map}
-use Rattle.std.specs.Prelude.{Option, Some, None, option_map, unwrap_or, slice_set, slice_index_or, is_some, option_and_then}
-use Rattle.std.specs.List.{find}
+use Rattle.std.proofs.Common.{◌≡◌, ◌∙◌, ℕ, ◌+◌, ◌<◌, ◌==◌, ◌&&◌, not, Bool, true, false, cond, if◌then◌else◌, List, [], ◌∷◌, ◌++◌, length, filter, refl, ap, sym, subst, eq-eqb, eqb-true, append-nil, map}
+use Rattle.std.specs.Prelude.{Option, Some, None, option_map, unwrap_or, slice_set}
 use Rattle.smc_num.specs.declared.Side.{Side}
 use Rattle.smc_num.specs.declared.Side.TheVariants.{A, B}
 use Rattle.smc_num.specs.Names.{other, up_to}
@@ -26,36 +24,34 @@ use Rattle.rmb_region.specs.Regions.{Buffer}
 use Rattle.clc_wire.specs.declared.message.ClcMessage.TheVariants.{Decline as DeclineMessage}
 use Rattle.pipe_model.specs.declared.setup.Setup.{Setup}
 use Rattle.pipe_model.specs.declared.event.Event.TheVariants.{Clc}
-use Rattle.pipe_model.specs.declared.reply.Reply.{Reply}
-use Rattle.pipe_model.specs.declared.reply.Reply.TheVariants.{Declined, FellBack}
-use Rattle.pipe_model.specs.declared.reply.Lack.{Lack}
+use Rattle.pipe_model.specs.declared.reply.Reply.TheVariants.{FellBack}
 use Rattle.pipe_model.specs.declared.post.Post.{Post}
 use Rattle.pipe_model.specs.declared.entry.Entry.{Entry}
 use Rattle.pipe_model.specs.History.{Offered, offered}
-use Rattle.pipe_model.specs.Fabric.{fabric, act_in, act_by, group_of, peer, Act}
+use Rattle.pipe_model.specs.Fabric.{fabric, act_in, group_of}
 use Rattle.pipe_model.specs.Ends.{Half}
-use Rattle.pipe_model.specs.Connections.{EndState, HasFallen, IsUp, is_up, early_state, end_state, after_event, after_loss, named_link, group_on, up_by, items, part, confirmed_by, WaitsConfirm}
-use Rattle.pipe_model.specs.Keys.{book_of, book_clc, keys_of}
-use Rattle.pipe_model.specs.Lending.{Lending, lendings, lends, lent, returns, leaves_handshake, free_places, lent_places, lends_by}
+use Rattle.pipe_model.specs.Connections.{HasFallen, IsUp, is_up, early_state, end_state, after_loss, named_link, group_on, up_by, items, part, WaitsConfirm}
+use Rattle.pipe_model.specs.Keys.{book_of, keys_of}
+use Rattle.pipe_model.specs.Lending.{Lending, lendings, lent, returns, free_places, lent_places, lends_by}
 use Rattle.pipe_model.specs.Fallback.{is_raw, front, Whole}
 use Rattle.pipe_model.specs.Posts.{connection_posts, offered_place, clc_posts, groups_begun}
 use Rattle.pipe_model.specs.Lawful.{asked, front_posts}
 use Rattle.clc_handshake.specs.Stages.{Hand}
 use Rattle.side_core.specs.Records.{Connection, conn_at}
 use Rattle.side_core.specs.Manager.{Manager, with_hand, hand_at, no_hand}
-use Rattle.world_core.specs.OneLink.{Stage, fabric_at, the_link}
+use Rattle.world_core.specs.OneLink.{Stage, the_link}
 use Rattle.world_core.specs.Sockets.{IsWorld, on_link, IsOffer}
 use Rattle.world_core.specs.Played.{IsPlayed}
 use Rattle.world_core.specs.Agreement.{IsShaken}
 use Rattle.world_core.specs.Managers.{manager_of, desk_of, hand_of, conn_of, end_of, route_of, each_socket, lending_on, heard_on, awaits_confirm, keeps_element, HasLendings, first_on, rows_of, lending_due}
 use Rattle.world_core.proofs.QuietEvents.{by-side, entry-of}
-use Rattle.world_core.proofs.QuietEntries.{only-deeds, same-group, all-stay}
+use Rattle.world_core.proofs.QuietEntries.{only-deeds, same-group}
 use Rattle.world_core.proofs.Parts.{part-open}
 use Rattle.world_core.proofs.PlainPosts.{ArePlain, offer-stays, lends-none, lendings-stay, groups-stay, pairs-stay, serial-stays, first-stays}
 use Rattle.world_core.proofs.StillEntries.{silent-pipes, end-stays, lent-stays, returns-by, still-desk, keys-stay, book-stays}
 use Rattle.world_core.proofs.SameManagers.{SameDesk, SameRoute, same-desk, same-conn, same-spare, desk_from, route_from, rows_from}
 use Rattle.world_core.proofs.KeptManagers.{by-parts, conn-at}
-use Rattle.world_core.proofs.Lendings.{no-lending-due, lendings-kept, lending-due}
+use Rattle.world_core.proofs.Lendings.{lending-due}
 use Rattle.world_core.proofs.Tables.{same-sockets, set-socket, at-socket}
 
 module _ (setup : Setup) (payload : List ℕ) (regions : List Buffer) (stage : Stage) (past : List Entry) (one : setup.links ≡ 1) (rmbs : rmbs_of setup B ≡ 1) (world : IsWorld setup stage past) (lendings_are : HasLendings setup payload past) (actor n s : ℕ) (posts : List Post)

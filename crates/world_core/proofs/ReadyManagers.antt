@@ -1,8 +1,7 @@
 -- The server takes the Confirm of first contact: it learns the key and the offer of its peer, and asks it to confirm the link.
 use Rattle.side_core.specs.Acting.{risen_at}
-use Rattle.std.proofs.Common.{◌≡◌, ◌∙◌, ℕ, ◌<◌, ◌==◌, ◌&&◌, ◌||◌, not, Bool, true, false, if◌then◌else◌, List, [], ◌∷◌, ◌++◌, length, refl, ap, sym, subst, eq-eqb, eqb-true, append-nil, true≢false, map}
-use Rattle.std.specs.Prelude.{Option, Some, None, option_map, option_and_then, unwrap_or, slice_set, slice_index_or, is_some}
-use Rattle.std.specs.Option.{option_or}
+use Rattle.std.proofs.Common.{◌≡◌, ◌∙◌, ℕ, ◌<◌, ◌==◌, Bool, true, false, if◌then◌else◌, List, [], ◌∷◌, ◌++◌, length, refl, ap, sym, subst, eq-eqb, eqb-true, append-nil, map}
+use Rattle.std.specs.Prelude.{Option, Some, None, option_map, unwrap_or, slice_set, slice_index_or}
 use Rattle.smc_num.specs.declared.Side.{Side}
 use Rattle.smc_num.specs.declared.Side.TheVariants.{A, B}
 use Rattle.smc_num.specs.declared.LinkId.{LinkId}
@@ -21,10 +20,10 @@ use Rattle.pipe_model.specs.declared.post.Post.{Post}
 use Rattle.pipe_model.specs.declared.post.Post.TheVariants.{Llc}
 use Rattle.pipe_model.specs.declared.entry.Entry.{Entry}
 use Rattle.pipe_model.specs.History.{Offered, offered}
-use Rattle.pipe_model.specs.Fabric.{Act, Fabric, fabric, peer, act_in, act_by, group_of, table_of}
+use Rattle.pipe_model.specs.Fabric.{Fabric, fabric, act_in, group_of}
 use Rattle.pipe_model.specs.Ends.{Half}
-use Rattle.pipe_model.specs.Connections.{EndState, WaitsConfirm, WaitsLink, IsUp, is_up, early_state, end_state, after_event, after_loss, named_link, group_on, up_by, confirmed_by, items, part}
-use Rattle.pipe_model.specs.Keys.{book_of, book_clc, book_act, learns_offer as keys_learns_offer, keys_of}
+use Rattle.pipe_model.specs.Connections.{WaitsConfirm, WaitsLink, IsUp, is_up, early_state, end_state, after_loss, named_link, group_on, up_by, items}
+use Rattle.pipe_model.specs.Keys.{book_of, book_clc, learns_offer as keys_learns_offer, keys_of}
 use Rattle.pipe_model.specs.Lending.{Lending, lendings, lent, leaves_handshake, free_places}
 use Rattle.pipe_model.specs.Fallback.{Whole, front, is_raw}
 use Rattle.pipe_model.specs.Messages.{pair_on, serial, confirm_link, act_pair}
@@ -32,11 +31,11 @@ use Rattle.pipe_model.specs.Posts.{connection_posts, clc_posts, groups_begun}
 use Rattle.pipe_model.specs.Replies.{clc_step}
 use Rattle.pipe_model.specs.Lawful.{asked, front_posts}
 use Rattle.clc_handshake.specs.Stages.{Hand, after_confirm}
-use Rattle.side_core.specs.Records.{Connection, conn_at, aims}
-use Rattle.side_core.specs.Desk.{Desk, most_slots, learns_offer}
+use Rattle.side_core.specs.Records.{Connection}
+use Rattle.side_core.specs.Desk.{most_slots, learns_offer}
 use Rattle.side_core.specs.Manager.{Manager, hand_at, with_hand, no_hand}
-use Rattle.side_core.specs.Taking.{asks_link, hears, with_desk, is_ready, rises_at}
-use Rattle.world_core.specs.OneLink.{the_link, Stage, Made, fabric_at, IsAtStage}
+use Rattle.side_core.specs.Taking.{asks_link, hears, with_desk, rises_at}
+use Rattle.world_core.specs.OneLink.{the_link, Made}
 use Rattle.world_core.specs.Sockets.{IsWorld, on_link}
 use Rattle.world_core.specs.Played.{IsPlayed}
 use Rattle.world_core.specs.Agreement.{IsShaken}
@@ -46,11 +45,11 @@ use Rattle.world_core.proofs.QuietEntries.{only-deeds, same-group, and-false}
 use Rattle.world_core.proofs.Parts.{part-open}
 use Rattle.world_core.proofs.PlainPosts.{ArePlain, offer-stays, lends-none, lendings-stay, groups-stay, pairs-stay, serial-stays, first-stays}
 use Rattle.world_core.proofs.StillEntries.{silent-pipes, end-stays, lent-stays, still-desk, keys-stay}
-use Rattle.world_core.proofs.SameManagers.{SameDesk, SameRoute, desk_from, conn_from, route_from, same-desk, same-conn, same-spare, same-rows, rows_from}
+use Rattle.world_core.proofs.SameManagers.{SameDesk, SameRoute, desk_from, conn_from, route_from, same-desk, same-conn, same-spare, rows_from}
 use Rattle.world_core.proofs.KeptManagers.{by-parts}
 use Rattle.world_core.proofs.Lendings.{lendings-kept}
 use Rattle.world_core.proofs.Tables.{same-sockets, set-socket, at-socket}
-use Rattle.world_core.proofs.TakenAlone.{IsTakenBy, IsStep, taken-by, paths_of}
+use Rattle.world_core.proofs.TakenAlone.{IsTakenBy, taken-by}
 
 module _ (setup : Setup) (payload : List ℕ) (regions : List Buffer) (past : List Entry) (one : setup.links ≡ 1) (s : ℕ) (world : IsWorld setup (Made s) past) (lendings_are : HasLendings setup payload past) (actor n : ℕ) (posts : List Post)
     (known : s < setup.sockets) (o : Offer) (len : ℕ) (theirs_is : offered A s past ≡ on_link o) (named : named_link s past ≡ Some the_link) (first : o.first ≡ true) (state : end_state B s past ≡ WaitsConfirm) (down : is_up B s past ≡ false)

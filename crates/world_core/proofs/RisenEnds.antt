@@ -3,10 +3,10 @@ use Rattle.side_core.specs.Desk.{goes_live}
 use Rattle.std.specs.List.{range_with_len}
 use Rattle.clc_wire.specs.declared.offer.Offer.{Offer}
 use Rattle.smc_num.specs.declared.LinkId.{LinkId}
-use Rattle.std.proofs.Common.{◌≡◌, ◌∙◌, ℕ, ◌+◌, ◌<◌, ◌==◌, ◌&&◌, not, Bool, true, false, if◌then◌else◌, List, [], ◌∷◌, ◌++◌, length, map, flat_map, refl, ap, sym, subst, eqb-true, append-nil, arith}
+use Rattle.std.proofs.Common.{◌≡◌, ◌∙◌, ℕ, ◌<◌, ◌==◌, Bool, true, false, if◌then◌else◌, List, ◌∷◌, length, map, refl, ap, sym, subst, eqb-true}
 use Rattle.std.specs.Prelude.{Option, Some, None, option_map, unwrap_or, slice_set, slice_index_or}
 use Rattle.smc_num.specs.declared.Side.{Side}
-use Rattle.smc_num.specs.declared.Side.TheVariants.{A, B}
+use Rattle.smc_num.specs.declared.Side.TheVariants.{B}
 use Rattle.smc_num.specs.declared.LinkPhase.TheVariants.{Live as LiveLink}
 use Rattle.smc_num.specs.Names.{other, no_link}
 use Rattle.rmb_region.specs.Regions.{Buffer}
@@ -14,26 +14,25 @@ use Rattle.pipe_model.specs.declared.setup.Setup.{Setup}
 use Rattle.pipe_model.specs.declared.flow.FlowStep.TheVariants.{Live}
 use Rattle.pipe_model.specs.declared.entry.Entry.{Entry}
 use Rattle.pipe_model.specs.History.{Offered, offered}
-use Rattle.pipe_model.specs.Fabric.{fabric}
 use Rattle.pipe_model.specs.Ends.{Half, settle, comes_up, meets_fate}
-use Rattle.pipe_model.specs.Connections.{IsUp, WaitsLink, is_up, early_state, end_state, named_link, group_on}
+use Rattle.pipe_model.specs.Connections.{IsUp, is_up, early_state, end_state, named_link}
 use Rattle.pipe_model.specs.Lending.{Lending, lends_by, lendings, lent, free_places, leaves_handshake}
 use Rattle.pipe_model.specs.Fallback.{is_raw}
 use Rattle.side_core.specs.Records.{Connection}
-use Rattle.side_core.specs.Manager.{Manager, no_hand}
+use Rattle.side_core.specs.Manager.{no_hand}
 use Rattle.side_core.specs.Acting.{confirms_link}
-use Rattle.world_core.specs.OneLink.{the_link, Stage, fabric_at, IsAtStage}
-use Rattle.world_core.specs.Sockets.{IsWorld, on_link}
+use Rattle.world_core.specs.OneLink.{the_link, Stage, IsAtStage}
+use Rattle.world_core.specs.Sockets.{IsWorld}
 use Rattle.world_core.specs.Played.{IsPlayed}
 use Rattle.world_core.specs.Agreement.{IsShaken}
-use Rattle.world_core.specs.Managers.{manager_of, desk_of, hand_of, conn_of, end_of, route_of, first_on, heard_on, awaits_confirm, each_socket, lending_on, HasLendings, keeps_element}
+use Rattle.world_core.specs.Managers.{manager_of, desk_of, hand_of, conn_of, end_of, first_on, heard_on, awaits_confirm, each_socket, lending_on, HasLendings, keeps_element}
 use Rattle.world_core.proofs.PlainPosts.{ArePlain, offer-stays, lendings-stay}
 use Rattle.world_core.proofs.SameManagers.{SameRoute, conn_from, same-conn, same-spare, route_from}
 use Rattle.world_core.proofs.KeptManagers.{by-parts}
 use Rattle.world_core.proofs.Tables.{same-sockets, set-socket, at-socket}
-use Rattle.world_core.proofs.Lendings.{lending-due, lendings-kept}
+use Rattle.world_core.proofs.Lendings.{lending-due}
 use Rattle.world_core.proofs.Confirming.{Confirming, IsConfirming, IsWaiting}
-use Rattle.world_core.proofs.LinkManagers.{hear, rise, map-map, w, lent-now, own-desk, their-desk, own-hands, their-hands, conn-else, conn-else-before, end-risen, end-theirs, up-other, up-else, is-up-now, state-by}
+use Rattle.world_core.proofs.LinkManagers.{hear, rise, map-map, w, lent-now, own-desk, their-desk, own-hands, their-hands, conn-else, conn-else-before, end-risen, end-theirs, up-other, is-up-now, state-by}
 
 module _ {x : Side} {from to : Stage} {reply : Bool} (setup : Setup) (payload : List ℕ) (regions : List Buffer) (e : Entry) (past : List Entry) (c : Confirming x (first_on x past) from to reply)
     (world : IsWorld setup from past) (now : IsAtStage setup to (e ∷ past)) (i : IsConfirming payload x reply e past) (plain : ArePlain e.posts)

@@ -2,7 +2,7 @@
 use Rattle.std.specs.List.{range_with_len}
 use Rattle.side_core.specs.declared.route.Route.{Route}
 use Rattle.smc_num.specs.declared.LinkId.{LinkId}
-use Rattle.std.proofs.Common.{◌≡◌, ◌∙◌, ℕ, ◌+◌, ◌<◌, ◌==◌, not, Bool, true, false, if◌then◌else◌, List, [], ◌∷◌, ◌++◌, length, drop, map, flat_map, refl, ap, sym, append-nil, arith}
+use Rattle.std.proofs.Common.{◌≡◌, ◌∙◌, ℕ, ◌<◌, ◌==◌, not, Bool, true, false, if◌then◌else◌, List, [], ◌∷◌, ◌++◌, length, drop, map, flat_map, refl, ap, sym, append-nil, arith}
 use Rattle.std.specs.Prelude.{Option, Some, None, option_map, unwrap_or, slice_index_or}
 use Rattle.smc_num.specs.declared.Side.{Side}
 use Rattle.smc_num.specs.declared.Side.TheVariants.{A, B}
@@ -15,25 +15,23 @@ use Rattle.pipe_model.specs.declared.post.Post.{Post}
 use Rattle.pipe_model.specs.declared.sent.Sent.{Sent}
 use Rattle.pipe_model.specs.Words.{element_size}
 use Rattle.pipe_model.specs.History.{Offered, offered}
-use Rattle.pipe_model.specs.Fabric.{fabric}
-use Rattle.pipe_model.specs.Ends.{Half, is_due, batch, settle, comes_up, meets_fate}
+use Rattle.pipe_model.specs.Ends.{Half, is_due, batch, comes_up, meets_fate}
 use Rattle.pipe_model.specs.Pipe.{Item, Up, Fate, half, pipe, posts_of, sent_since}
 use Rattle.pipe_model.specs.Connections.{group_on, items, part}
-use Rattle.pipe_model.specs.Keys.{Keys, keys_of}
-use Rattle.pipe_model.specs.Lending.{Lending, lends_by, terms_of}
-use Rattle.pipe_model.specs.Posts.{sent_posts, end_posts, pipe_posts, is_offered, offered_sockets, connection_posts}
+use Rattle.pipe_model.specs.Keys.{keys_of}
+use Rattle.pipe_model.specs.Lending.{terms_of}
+use Rattle.pipe_model.specs.Posts.{sent_posts, end_posts, pipe_posts, is_offered, connection_posts}
 use Rattle.side_core.specs.Records.{Connection}
 use Rattle.side_core.specs.Manager.{Manager}
 use Rattle.side_core.specs.Posting.{batch_posts}
 use Rattle.side_core.specs.Acting.{key_to, link_lives, risen_from, risen_at}
-use Rattle.world_core.specs.OneLink.{the_link, Stage, fabric_at, keys_at, book_at, IsAtStage}
-use Rattle.world_core.specs.Sockets.{IsWorld, on_link}
-use Rattle.world_core.specs.Managers.{manager_of, desk_of, conn_of, end_of, route_of, first_on, lending_on, each_socket}
+use Rattle.world_core.specs.OneLink.{the_link, Stage, IsAtStage}
+use Rattle.world_core.specs.Managers.{manager_of, desk_of, conn_of, end_of, route_of, each_socket}
 use Rattle.world_core.proofs.PipePosts.{met}
 use Rattle.world_core.proofs.PipeSteps.{risen, risen-other, sent-by}
 use Rattle.world_core.proofs.KeyedEnds.{KnowsEnds, UpFacts}
 use Rattle.world_core.proofs.DuePosts.{up-posts}
-use Rattle.world_core.proofs.Confirming.{Confirming, IsConfirming, IsWaiting, keys-known, keys-same, items-first, items-else}
+use Rattle.world_core.proofs.Confirming.{Confirming, IsConfirming, IsWaiting, keys-same, items-first, items-else}
 use Rattle.world_core.proofs.LinkManagers.{hear, map-map}
 use Rattle.world_core.proofs.Tables.{at-socket}
 

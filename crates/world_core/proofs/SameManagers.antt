@@ -1,37 +1,30 @@
 -- What a manager looks at in the past: where two histories show the same, it keeps the same, and where they show the same but
 -- for one end, just that end differs.
-use Rattle.std.proofs.Common.{◌≡◌, ◌∙◌, ℕ, ◌+◌, ◌<◌, ◌==◌, Bool, true, false, if◌then◌else◌, List, [], ◌∷◌, length, map, filter, refl, ap, sym, arith}
-use Rattle.std.specs.Prelude.{Option, Some, None, option_map, unwrap_or, slice_index_or, slice_set}
+use Rattle.std.proofs.Common.{◌≡◌, ◌∙◌, ℕ, Bool, List, length, map, filter, refl, ap}
+use Rattle.std.specs.Prelude.{Option, Some, None, option_map, unwrap_or}
 use Rattle.smc_num.specs.declared.Side.{Side}
-use Rattle.smc_num.specs.declared.Side.TheVariants.{A, B}
 use Rattle.smc_num.specs.declared.LinkId.{LinkId}
-use Rattle.smc_num.specs.Names.{at_side, other, no_link, up_to}
-use Rattle.smc_num.specs.Places.{Place, all_places, is_free}
-use Rattle.rmb_region.specs.Regions.{Buffer}
+use Rattle.smc_num.specs.Names.{at_side, no_link, up_to}
+use Rattle.smc_num.specs.Places.{all_places, is_free}
 use Rattle.clc_wire.specs.declared.offer.Offer.{Offer}
 use Rattle.element_ledger.specs.Lendings.{Row}
 use Rattle.pipe_model.specs.declared.setup.Setup.{Setup}
 use Rattle.pipe_model.specs.declared.entry.Entry.{Entry}
 use Rattle.pipe_model.specs.Words.{rmbs_of, elements_of}
-use Rattle.pipe_model.specs.History.{Offered, offered}
-use Rattle.pipe_model.specs.Fabric.{Fabric, Peer, fabric, peer, made_on}
+use Rattle.pipe_model.specs.Fabric.{Fabric, fabric, peer, made_on}
 use Rattle.pipe_model.specs.Ends.{Half}
-use Rattle.pipe_model.specs.Connections.{EndState, IsUp, named_link, group_on, is_up, early_state, end_state}
-use Rattle.pipe_model.specs.Lending.{Lending, lendings, lent, lent_places, free_places, epoch, terms_of}
+use Rattle.pipe_model.specs.Connections.{named_link, is_up, end_state}
+use Rattle.pipe_model.specs.Lending.{Lending, lendings, lent, lent_places, free_places}
 use Rattle.pipe_model.specs.Fallback.{is_raw}
 use Rattle.pipe_model.specs.Keys.{Keys, keys_of, book_of}
 use Rattle.pipe_model.specs.Messages.{serial, pair_on}
 use Rattle.pipe_model.specs.Posts.{groups_begun}
 use Rattle.smc_num.specs.Keys.{Key}
-use Rattle.failover.specs.Tables.{Links}
 use Rattle.clc_handshake.specs.Stages.{Hand}
 use Rattle.side_core.specs.declared.route.Route.{Route}
-use Rattle.side_core.specs.Records.{Connection, Records, conn_at, changes}
+use Rattle.side_core.specs.Records.{Connection}
 use Rattle.side_core.specs.Desk.{Desk, most_slots}
-use Rattle.side_core.specs.Manager.{Manager}
-use Rattle.world_core.specs.Managers.{manager_of, desk_of, records_of, hand_of, conn_of, route_of, end_of, rows_of, row_of, first_on, heard_on, element_of, epoch_in, lending_on, awaits_confirm, each_socket}
-use Rattle.world_core.specs.Views.{ShowsSame}
-use Rattle.world_core.proofs.Tables.{map-alike, same-sockets, set-socket, at-socket}
+use Rattle.world_core.specs.Managers.{desk_of, hand_of, conn_of, end_of, rows_of, row_of, first_on, heard_on, epoch_in, lending_on}
 
 -- two histories show the same of what the desk of a side looks at
 pub record SameDesk (setup : Setup) (payload : List ℕ) (x : Side) (one two : List Entry) : Type 0 where

@@ -1,20 +1,18 @@
 -- A lending of the lowest free element begins: its row changes and no other, one element less is free, and other lendings keep their epochs.
-use Rattle.std.proofs.Common.{◌≡◌, ◌∙◌, ℕ, ◌+◌, ◌-◌, ◌<◌, ◌≤◌, ◌==◌, ◌&&◌, ◌||◌, not, Bool, true, false, cond, if◌then◌else◌, List, [], ◌∷◌, ◌++◌, length, map, filter, refl, ap, sym, subst, suc, zero, arith, true≢false, eq-eqb, eqb-true, ne_eqb}
+use Rattle.std.proofs.Common.{◌≡◌, ◌∙◌, ℕ, ◌+◌, ◌-◌, ◌<◌, ◌==◌, ◌&&◌, ◌||◌, not, Bool, true, false, cond, if◌then◌else◌, List, [], ◌∷◌, length, map, filter, refl, ap, sym, suc, zero, arith, true≢false, eq-eqb, eqb-true, ne_eqb}
 use Rattle.std.specs.Prelude.{Option, Some, None, option_map, unwrap_or}
-use Rattle.std.specs.List.{find, list_any, range_with_len}
+use Rattle.std.specs.List.{list_any, range_with_len}
 use Rattle.std.proofs.lemmas.List.{append-nil}
 use Rattle.smc_num.specs.declared.Side.{Side}
 use Rattle.smc_num.specs.Names.{head}
 use Rattle.smc_num.specs.Places.{Place, same_place, all_places, is_free}
-use Rattle.element_ledger.specs.declared.Element.{Element}
-use Rattle.element_ledger.specs.Lendings.{Row, fresh, lends, changes_at, place_of, first_free, next_lending}
+use Rattle.element_ledger.specs.Lendings.{Row, fresh, lends, changes_at, next_lending}
 use Rattle.pipe_model.specs.declared.setup.Setup.{Setup}
 use Rattle.pipe_model.specs.declared.entry.Entry.{Entry}
 use Rattle.pipe_model.specs.Words.{rmbs_of, elements_of}
 use Rattle.pipe_model.specs.Lending.{Lending, lendings, lent, lent_places, free_places}
-use Rattle.side_core.specs.Desk.{Desk, next_element}
-use Rattle.world_core.specs.Managers.{desk_of, row_of, rows_of, lent_to, lending_at, lending_on, epoch_in}
-use Rattle.world_core.proofs.Tables.{map-alike}
+use Rattle.side_core.specs.Desk.{next_element}
+use Rattle.world_core.specs.Managers.{desk_of, row_of, lent_to, lending_at, lending_on, epoch_in}
 use Rattle.world_core.proofs.LentRows.{free-is}
 
 pub eqb-sym : (a b : ℕ) → (a == b) ≡ (b == a)

@@ -1,9 +1,8 @@
 -- An entry that moves no link, of plain posts: what stays of a side's desk, its lendings, and the ends.
-use Rattle.std.proofs.Common.{◌≡◌, ◌∙◌, ℕ, ◌+◌, ◌==◌, ◌&&◌, ◌||◌, not, Bool, true, false, if◌then◌else◌, List, [], ◌∷◌, ◌++◌, length, drop, map, filter, filter_map, flat_map, refl, ap, sym}
-use Rattle.std.specs.Prelude.{Option, Some, None, option_map, unwrap_or, fold}
+use Rattle.std.proofs.Common.{◌≡◌, ◌∙◌, ℕ, ◌==◌, ◌||◌, not, Bool, true, false, if◌then◌else◌, List, [], ◌∷◌, ◌++◌, length, drop, filter, filter_map, flat_map, refl, ap, sym}
+use Rattle.std.specs.Prelude.{None, fold}
 use Rattle.smc_num.specs.declared.Side.{Side}
 use Rattle.smc_num.specs.declared.Side.TheVariants.{A, B}
-use Rattle.smc_num.specs.declared.LinkId.{LinkId}
 use Rattle.smc_num.specs.Names.{other}
 use Rattle.smc_num.specs.Keys.{Key}
 use Rattle.pipe_model.specs.declared.setup.Setup.{Setup}
@@ -11,12 +10,12 @@ use Rattle.pipe_model.specs.declared.post.Post.{Post}
 use Rattle.pipe_model.specs.declared.entry.Entry.{Entry}
 use Rattle.pipe_model.specs.declared.sent.Sent.{Sent}
 use Rattle.pipe_model.specs.Words.{element_size}
-use Rattle.pipe_model.specs.History.{Offered, offered}
-use Rattle.pipe_model.specs.Fabric.{Fabric, fabric, peer, act_in, group_of, table_of, flow_of, loses_group_with}
+use Rattle.pipe_model.specs.History.{offered}
+use Rattle.pipe_model.specs.Fabric.{Fabric, fabric, peer, act_in, group_of, table_of, flow_of}
 use Rattle.pipe_model.specs.Ends.{is_over}
 use Rattle.pipe_model.specs.Pipe.{Item, half, pipe, posts_of, sent_since}
 use Rattle.pipe_model.specs.Connections.{group_on, items, part}
-use Rattle.pipe_model.specs.Keys.{Keys, keys_of, book_of, by_post, by_act, if_group, book_clc, book_act}
+use Rattle.pipe_model.specs.Keys.{keys_of, book_of, by_post, by_act, if_group, book_clc, book_act}
 use Rattle.pipe_model.specs.Lending.{Lending, lends, lent, returns, leaves_handshake, terms_of, pipe_of}
 use Rattle.pipe_model.specs.Posts.{sent_posts, end_posts, pipe_posts, offered_sockets, connection_posts}
 use Rattle.world_core.specs.OneLink.{Stage, IsAtStage, fabric_at}
@@ -24,7 +23,7 @@ use Rattle.world_core.specs.Wired.{EachItem, keeps_open}
 use Rattle.world_core.specs.Managers.{end_of}
 use Rattle.world_core.proofs.Moves.{has-group, has-book}
 use Rattle.world_core.proofs.OpenEnds.{never-over}
-use Rattle.world_core.proofs.PlainPosts.{ArePlain, plain-keys, lends-none, groups-stay, pairs-stay, serial-stays, lendings-stay, first-stays}
+use Rattle.world_core.proofs.PlainPosts.{ArePlain, plain-keys, groups-stay, pairs-stay, serial-stays, lendings-stay, first-stays}
 use Rattle.pipe_model.specs.Messages.{act_pair}
 use Rattle.world_core.proofs.QuietEntries.{all-stay, same-group}
 use Rattle.world_core.proofs.SameManagers.{SameDesk}

@@ -1,8 +1,8 @@
 -- A CLC message upon which the taker falls back, before its side has lent: it is what a manager does with the message.
 use Rattle.pipe_model.specs.History.{offered}
 use Rattle.pipe_model.specs.Ends.{Half}
-use Rattle.std.proofs.Common.{◌≡◌, ◌∙◌, ℕ, ◌<◌, ◌==◌, ◌&&◌, Bool, true, false, if◌then◌else◌, List, [], ◌∷◌, ◌++◌, refl, ap, sym, true≢false}
-use Rattle.std.specs.Prelude.{Option, Some, None, option_map}
+use Rattle.std.proofs.Common.{◌≡◌, ◌∙◌, ℕ, ◌<◌, ◌&&◌, Bool, true, false, List, [], ◌∷◌, ◌++◌, refl, ap, sym, true≢false}
+use Rattle.std.specs.Prelude.{None, option_map}
 use Rattle.smc_num.specs.declared.Side.{Side}
 use Rattle.smc_num.specs.declared.Side.TheVariants.{A, B}
 use Rattle.smc_num.specs.declared.LinkId.{LinkId}
@@ -15,7 +15,6 @@ use Rattle.clc_wire.specs.declared.message.ClcMessage.{ClcMessage}
 use Rattle.clc_wire.specs.declared.message.ClcMessage.TheVariants.{Proposal as ProposalMessage, Accept as AcceptMessage, Decline as DeclineMessage}
 use Rattle.pipe_model.specs.declared.setup.Setup.{Setup}
 use Rattle.pipe_model.specs.declared.event.Event.TheVariants.{Clc}
-use Rattle.pipe_model.specs.declared.reply.Reply.{Reply}
 use Rattle.pipe_model.specs.declared.reply.Reply.TheVariants.{Declined, FellBack}
 use Rattle.pipe_model.specs.declared.reply.Lack.{Lack}
 use Rattle.pipe_model.specs.declared.verdict.ClcStep.{ClcStep}
@@ -24,10 +23,9 @@ use Rattle.pipe_model.specs.declared.post.Post.{Post}
 use Rattle.pipe_model.specs.declared.post.Post.TheVariants.{Clc as ClcPost}
 use Rattle.pipe_model.specs.declared.entry.Entry.{Entry}
 use Rattle.pipe_model.specs.Fabric.{fabric, after, path_up}
-use Rattle.pipe_model.specs.Connections.{EndState, WaitsProposal, WaitsAnswer, IsUp, HasFallen, end_state, up_by, after_event, is_up}
+use Rattle.pipe_model.specs.Connections.{EndState, WaitsProposal, WaitsAnswer, HasFallen, end_state, up_by, is_up}
 use Rattle.pipe_model.specs.Keys.{book_of, book_clc}
-use Rattle.pipe_model.specs.Lending.{leaves_handshake}
-use Rattle.pipe_model.specs.Fallback.{Front, Whole, front}
+use Rattle.pipe_model.specs.Fallback.{Whole, front}
 use Rattle.pipe_model.specs.Messages.{refusal}
 use Rattle.pipe_model.specs.Posts.{clc_posts}
 use Rattle.pipe_model.specs.Replies.{clc_step, step_told}
@@ -40,7 +38,7 @@ use Rattle.world_core.specs.OneLink.{Stage}
 use Rattle.world_core.specs.Sockets.{Socket, Unopened, Fallen, Proposed, Refused, FirstAccepted, FirstConfirmed, AwaitsLink, FirstUpAtA, FirstUp, Accepted, AcceptRefused, AcceptFallen, Confirmed, Up, up_at, end_at, offered_at, IsWorld}
 use Rattle.world_core.specs.Played.{IsPlayed}
 use Rattle.world_core.specs.Agreement.{IsShaken}
-use Rattle.world_core.specs.Managers.{manager_of, conn_of, lending_on, keeps_element, HasLendings, route_of, end_of}
+use Rattle.world_core.specs.Managers.{manager_of, keeps_element, HasLendings, route_of, end_of}
 use Rattle.world_core.proofs.QuietEvents.{by-side, entry-of}
 use Rattle.world_core.proofs.TakenMessages.{end-is}
 use Rattle.world_core.proofs.KeptManagers.{conn-at}

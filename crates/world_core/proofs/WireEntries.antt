@@ -1,6 +1,6 @@
 -- Landings and completions: a CDC message is taken by its end, or counts as completed at the end that sent it, and what is due then
 -- is posted; a write, or no post, changes nothing that a manager keeps beside its buffers.
-use Rattle.std.proofs.Common.{◌≡◌, ◌∙◌, ◌⊎◌, ℕ, ◌<◌, ◌==◌, ◌&&◌, not, Bool, true, false, if◌then◌else◌, List, [], ◌∷◌, ◌++◌, drop, refl, ap, sym, subst, eq-eqb, eqb-true, true≢false}
+use Rattle.std.proofs.Common.{◌≡◌, ◌∙◌, ℕ, ◌<◌, ◌==◌, ◌&&◌, not, Bool, true, false, if◌then◌else◌, List, [], ◌∷◌, ◌++◌, drop, refl, ap, sym, eq-eqb, eqb-true, true≢false}
 use Rattle.std.specs.Prelude.{Option, Some, None, option_map, unwrap_or}
 use Rattle.smc_num.specs.declared.Side.{Side}
 use Rattle.smc_num.specs.declared.Side.TheVariants.{A, B}
@@ -10,14 +10,9 @@ use Rattle.smc_num.specs.Numbers.{wire_number}
 use Rattle.cdc_wire.specs.declared.CdcMessage.{CdcMessage}
 use Rattle.rmb_region.specs.Regions.{Buffer}
 use Rattle.pipe_model.specs.declared.setup.Setup.{Setup}
-use Rattle.pipe_model.specs.declared.event.Event.TheVariants.{Deliver, Complete}
-use Rattle.pipe_model.specs.declared.reply.Reply.{Reply}
-use Rattle.pipe_model.specs.declared.reply.Reply.TheVariants.{Landed, Completed, Idle}
 use Rattle.pipe_model.specs.declared.reply.ResetCause.TheVariants.{PeerAbort, Gap}
-use Rattle.pipe_model.specs.declared.post.Post.{Post}
 use Rattle.pipe_model.specs.declared.post.Post.TheVariants.{Write, Cdc}
 use Rattle.pipe_model.specs.declared.post.PostRef.{PostRef}
-use Rattle.pipe_model.specs.declared.post.Placed.{Placed}
 use Rattle.pipe_model.specs.declared.entry.Entry.{Entry}
 use Rattle.pipe_model.specs.declared.sent.Sent.{Sent}
 use Rattle.pipe_model.specs.Words.{passes}
@@ -38,7 +33,7 @@ use Rattle.world_core.specs.Managers.{manager_of, end_of, changes_end}
 use Rattle.world_core.proofs.PipeSteps.{landed, taken, completed, completed-other}
 use Rattle.world_core.proofs.QuietEntries.{IsCalm}
 use Rattle.world_core.proofs.KeyedEnds.{KnowsEnds}
-use Rattle.world_core.proofs.CallEntries.{IsSent, IsNothing, sent-either, sent-self, nothing-done}
+use Rattle.world_core.proofs.CallEntries.{IsSent, sent-either, sent-self}
 use Rattle.world_core.proofs.ActedEnds.{one-acted, one-changed, one-kept, one-posts, after_at}
 
 -- what is taken or completes leaves what was sent

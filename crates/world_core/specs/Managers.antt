@@ -1,6 +1,6 @@
 -- What the manager of a side keeps after a history, as a record of functions of the past.
 -- A reader learns here for which plain manager each side's manager stands: its desk, its handshakes and its connections.
-use Rattle.std.specs.Prelude.{◌≡◌, ℕ, ◌+◌, ◌==◌, Bool, true, false, if◌then◌else◌, List, [], ◌∷◌, length, map, filter, filter_map, Option, Some, None, option_map, unwrap_or}
+use Rattle.std.specs.Prelude.{◌≡◌, ℕ, ◌==◌, Bool, true, false, if◌then◌else◌, List, [], ◌∷◌, length, map, filter, filter_map, Option, Some, None, option_map, unwrap_or}
 use Rattle.std.specs.List.{find, range_with_len}
 use Rattle.smc_num.specs.declared.Side.{Side}
 use Rattle.smc_num.specs.declared.Side.TheVariants.{A, B}

@@ -1,6 +1,6 @@
 -- How much room the one link needs: how many posts of a side can be under way on it.
 -- A reader learns here how ends that are up are counted, and what they bound.
-use Rattle.std.specs.Prelude.{◌≡◌, ℕ, zero, suc, ◌+◌, ◌*◌, ◌≤◌, Bool, true, false, if◌then◌else◌, List, [], ◌∷◌, ◌++◌, length}
+use Rattle.std.specs.Prelude.{ℕ, zero, suc, ◌+◌, ◌*◌, ◌≤◌, if◌then◌else◌, List, ◌++◌, length}
 use Rattle.smc_num.specs.declared.Side.{Side}
 use Rattle.pipe_model.specs.declared.setup.Setup.{Setup}
 use Rattle.pipe_model.specs.declared.entry.Entry.{Entry}
