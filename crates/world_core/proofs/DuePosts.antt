@@ -42,12 +42,12 @@ cdc-alone : (ps : List Post) → ps ++ [] ≡ ps
 cdc-alone ps = append-nil ps
 
 -- the key that was bound last is the one that is known
-last-known : (y : Side) (q : Entry) (past : List Entry) (n : ℕ) → keys_of y (q ∷ past) ≡ the_keys y → n ≡ 1 → last_bound y n the_link (q ∷ past) ≡ Some (the_key y).key
+pub last-known : (y : Side) (q : Entry) (past : List Entry) (n : ℕ) → keys_of y (q ∷ past) ≡ the_keys y → n ≡ 1 → last_bound y n the_link (q ∷ past) ≡ Some (the_key y).key
 last-known y q past n k one =
     ap (λ m. last_bound y m the_link (q ∷ past)) one
     ∙ ap (λ (ks : Keys). option_or (bound 1 the_link ks.keys) (last_bound y 1 the_link past)) k
 
-known-key : (x : Side) (book : List Key) (n : ℕ) → book ≡ the_key (other x) ∷ [] → n ≡ 1 → unwrap_or (bound n the_link book) 0 ≡ (the_key (other x)).key
+pub known-key : (x : Side) (book : List Key) (n : ℕ) → book ≡ the_key (other x) ∷ [] → n ≡ 1 → unwrap_or (bound n the_link book) 0 ≡ (the_key (other x)).key
 known-key x book n e one = ap (λ m. unwrap_or (bound m the_link book) 0) one ∙ ap (λ (b : List Key). unwrap_or (bound 1 the_link b) 0) e
 
 module _ (setup : Setup) (payload : List ℕ) (regions : List Buffer) (q : Entry) (past : List Entry) (same_keys : (x : Side) → keys_of x (q ∷ past) ≡ keys_of x past) (knows : KnowsEnds setup payload past) where

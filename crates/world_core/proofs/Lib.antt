@@ -21,7 +21,9 @@ pub mod Declines
 pub mod DirectedWrites
 pub mod Due
 pub mod DuePosts
+pub mod EndedRows
 pub mod EntryItems
+pub mod EstablishedManagers
 pub mod FallenManagers
 pub mod Feasible
 pub mod FewUps
@@ -76,6 +78,7 @@ pub mod Quiet
 pub mod QuietEntries
 pub mod QuietEvents
 pub mod QuietManagers
+pub mod QuitManagers
 pub mod ReadyManagers
 pub mod Records
 pub mod Relending

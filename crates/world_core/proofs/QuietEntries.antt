@@ -105,7 +105,7 @@ pub and-false : (b : Bool) → (b && false) ≡ false
 and-false true = refl
 and-false false = refl
 
-one-fate : (x : Side) (g : ℕ) (stage : Stage) → filter_map (fate_of x g (peer x (fabric_at stage)).table) (peer x (fabric_at stage)).table ≡ []
+pub one-fate : (x : Side) (g : ℕ) (stage : Stage) → filter_map (fate_of x g (peer x (fabric_at stage)).table) (peer x (fabric_at stage)).table ≡ []
 one-fate A g NoLink = refl
 one-fate B g NoLink = refl
 one-fate A g (Begun s) = refl

@@ -25,7 +25,7 @@ eqb-sym a b = by (a == b) refl
 pub same-place-sym : (p q : Place) → same_place p q ≡ same_place q p
 same-place-sym p q = ap (λ b. b && (p.index == q.index)) (eqb-sym p.rmb q.rmb) ∙ ap (λ b. (q.rmb == p.rmb) && b) (eqb-sym p.index q.index)
 
-same-place-self : (p : Place) → same_place p p ≡ true
+pub same-place-self : (p : Place) → same_place p p ≡ true
 same-place-self p = ap (λ b. b && (p.index == p.index)) (eq-eqb p.rmb p.rmb refl) ∙ eq-eqb p.index p.index refl
 
 -- one row
