@@ -1,5 +1,5 @@
 -- The messages of an open end tell its bytes without a hole, and those that are to land go on from what its peer was told.
-use Rattle.std.proofs.Common.{◌≡◌, ◌∙◌, ◌==◌, ◌⊎◌, inl, inr, ℕ, ◌+◌, ◌<◌, ◌≤◌, min, max, Bool, true, false, not, if◌then◌else◌, List, [], ◌∷◌, ◌++◌, length, take, drop, refl, ap, sym, subst, ◌||◌, ◌&&◌, true≢false, arith, eq-eqb, zero, suc}
+use Rattle.std.proofs.Common.{◌≡◌, ◌∙◌, ◌==◌, inl, inr, ℕ, ◌+◌, ◌<◌, ◌≤◌, min, max, Bool, true, false, if◌then◌else◌, List, [], ◌∷◌, ◌++◌, length, take, drop, refl, ap, sym, subst, ◌||◌, true≢false, arith, eq-eqb, zero, suc}
 use Rattle.std.proofs.lemmas.Bool.{cases_lt}
 use Rattle.std.specs.Prelude.{Option, Some, None, is_some}
 use Rattle.std.proofs.lemmas.List.{drop-append-le}
@@ -13,7 +13,7 @@ use Rattle.pipe_model.specs.declared.closing.Phase.TheVariants.{Open}
 use Rattle.pipe_model.specs.declared.sent.Sent.{Sent}
 use Rattle.pipe_model.specs.declared.closing.Phase.{Phase}
 use Rattle.pipe_model.specs.Closing.{cause_of, is_closing}
-use Rattle.pipe_model.specs.Ends.{Half, fresh, settle, is_due, meets_fate, takes, completes, counts_completed, batch, present, posts_batch, window, unread, to_land, to_complete, lands}
+use Rattle.pipe_model.specs.Ends.{Half, settle, is_due, meets_fate, takes, completes, counts_completed, batch, present, posts_batch, window, unread, to_land, to_complete, lands}
 use Rattle.pipe_model.specs.Calls.{Call, Writes, Reads, Finishes, Closes, Aborts, Awaits, Moves, calls, is_ended}
 use Rattle.pipe_model.specs.Pipe.{Pipe, Terms, Item, Fate, GroupEnd, Up, Calls, Lands, Completes, half, pipe, apply}
 use Rattle.pipe_model.specs.Parts.{EachOf, IsFeasible, CanFollow, actor, is_broken, has_swallow, swallows, IsMarked}
@@ -22,7 +22,7 @@ use Rattle.pipe_model.proofs.Facts.{is-marked}
 use Rattle.pipe_model.proofs.Parts.{both-after}
 use Rattle.world_core.specs.Wired.{EachItem, keeps_open, IsOpenEnd, IsOpenSent}
 use Rattle.world_core.specs.Landed.{GoOn, Follows}
-use Rattle.world_core.proofs.OpenEnds.{each-head, takes-open-is, completes-open-is, both-open, apply-open, BothOpen}
+use Rattle.world_core.proofs.OpenEnds.{takes-open-is, completes-open-is, both-open, apply-open, BothOpen}
 
 pub go-append : (reach last : ℕ) (ms : List Sent) (m : Sent) → GoOn reach ms last → m.from ≡ last → GoOn reach (ms ++ m ∷ []) m.snapshot.told
 go-append reach last [] m g e = (e ∙ sym g, refl)

@@ -1,29 +1,23 @@
 -- After each entry the bytes of each end go on standing where its peer reads them.
-use Rattle.std.proofs.Common.{◌≡◌, ◌∙◌, ◌==◌, ◌⊎◌, inl, inr, ℕ, ◌+◌, ◌-◌, ◌%◌, ◌<◌, ◌≤◌, Bool, true, false, if◌then◌else◌, List, [], ◌∷◌, ◌++◌, zero, suc, length, take, drop, map, find, filter, refl, ap, sym, subst, ◌&&◌, ◌||◌, true≢false, arith, eqb-true, eq-eqb, length-drop, drop-drop}
+use Rattle.std.proofs.Common.{◌≡◌, ◌∙◌, ◌==◌, ◌⊎◌, inl, inr, ℕ, ◌+◌, ◌-◌, ◌%◌, ◌≤◌, Bool, true, false, if◌then◌else◌, List, [], ◌∷◌, ◌++◌, zero, suc, length, take, drop, find, filter, refl, ap, sym, subst, ◌&&◌, true≢false, arith, eqb-true, eq-eqb, length-drop}
 use Rattle.smc_num.specs.declared.LinkId.{LinkId}
-use Rattle.pipe_model.specs.Parts.{IsCounted}
-use Rattle.pipe_model.proofs.Facts.{is-counted}
-use Rattle.pipe_model.specs.Connections.{part}
-use Rattle.pipe_model.specs.Lending.{terms_of}
-use Rattle.world_core.proofs.Agreement.{agrees}
 use Rattle.world_core.proofs.Carrying.{drop-none}
 use Rattle.std.proofs.lemmas.Grind.{common_steps}
-use Rattle.std.specs.Prelude.{cond, Option, Some, None, is_some, option_map, option_and_then, unwrap_or}
+use Rattle.std.specs.Prelude.{Option, Some, None, is_some, option_and_then}
 use Rattle.smc_num.specs.declared.Side.{Side}
 use Rattle.smc_num.specs.Names.{other, same_side, head}
-use Rattle.smc_num.specs.Places.{Place, same_place, rmb_at, address_of}
-use Rattle.clc_wire.specs.declared.offer.Offer.{Offer}
+use Rattle.smc_num.specs.Places.{Place, same_place, address_of}
 use Rattle.cdc_wire.specs.declared.CdcMessage.{CdcMessage}
-use Rattle.rmb_region.specs.Regions.{Buffer, IsWhole, lands}
-use Rattle.rmb_region.proofs.Bytes.{a_new_buffer_is_whole, a_landing_keeps_the_buffer_whole}
+use Rattle.rmb_region.specs.Regions.{Buffer, lands}
+use Rattle.rmb_region.proofs.Bytes.{a_landing_keeps_the_buffer_whole}
 use Rattle.pipe_model.specs.declared.setup.Setup.{Setup}
 use Rattle.pipe_model.specs.declared.post.Post.{Post}
 use Rattle.pipe_model.specs.declared.post.Post.TheVariants.{Write, Cdc, Llc, Clc}
 use Rattle.pipe_model.specs.declared.entry.Entry.{Entry}
 use Rattle.pipe_model.specs.declared.sent.Sent.{Sent}
-use Rattle.pipe_model.specs.Words.{element_size, elements_of}
+use Rattle.pipe_model.specs.Words.{element_size}
 use Rattle.pipe_model.specs.History.{Offered, offered, is_cdc}
-use Rattle.pipe_model.specs.Wires.{is_on, unlanded}
+use Rattle.pipe_model.specs.Wires.{is_on}
 use Rattle.pipe_model.specs.Ends.{Half}
 use Rattle.pipe_model.specs.Pipe.{Lands, half}
 use Rattle.pipe_model.specs.Connections.{is_up, deeds, if_own}
@@ -31,29 +25,21 @@ use Rattle.pipe_model.specs.Lending.{Lending, lends_by, lent, record_of, pipe_of
 use Rattle.pipe_model.specs.Posts.{offered_place}
 use Rattle.world_core.specs.Played.{IsOneLink, IsPlayed}
 use Rattle.world_core.specs.OneLink.{the_link}
-use Rattle.world_core.specs.Sockets.{IsOffer, on_link}
-use Rattle.world_core.specs.Lent.{EachLending, HavePlaces, AreLendings}
 use Rattle.world_core.specs.WireSteps.{landing_now, leaving, LandsNow, Way}
-use Rattle.world_core.specs.Landed.{next_cdc, carried, told_next, bytes_of, waiting_posts, first_lands, written_for, peer_buffer, Stand, GoOn, Carries, Reaches, IsRmb}
-use Rattle.world_core.proofs.PlayedWorlds.{played}
+use Rattle.world_core.specs.Landed.{next_cdc, bytes_of, waiting_posts, first_lands, written_for, peer_buffer, Stand, GoOn, Carries, Reaches, IsRmb}
 use Rattle.world_core.proofs.LendingFacts.{played-lendings}
-use Rattle.world_core.proofs.Records.{found-is, record-of-offer, all-offers}
 use Rattle.world_core.proofs.NeverOver.{peer-not-fallen}
 use Rattle.world_core.proofs.StandingLendings.{stays-lent}
 use Rattle.world_core.proofs.Handshaken.{shaken, has-offers}
 use Rattle.world_core.proofs.Batched.{Posts, new-unlanded}
-use Rattle.world_core.proofs.Stood.{IsElement, lies-inside, slice-length, stand-more, stand-else}
-use Rattle.world_core.proofs.OnWay.{carries-up, tells-next, Tells}
+use Rattle.world_core.proofs.Stood.{lies-inside, slice-length, stand-more, stand-else}
+use Rattle.world_core.proofs.OnWay.{carries-up, tells-next}
 use Rattle.world_core.proofs.Moved.{mark, count, starts, finish, moved-stays, moved-lands, moved-passes, moved-completes}
 use Rattle.rmb_region.specs.Regions.{IsInside}
-use Rattle.world_core.specs.Agreement.{PostsOne, IsElse}
-use Rattle.pipe_model.specs.Lawful.{draft}
+use Rattle.world_core.specs.Agreement.{IsElse}
 use Rattle.world_core.proofs.Standing.{Owned, own-write, bytes-are, element-of, found-apart, tail-of, on-link-is, AllReach}
 use Rattle.world_core.proofs.Pipes.{has-pipe}
 use Rattle.world_core.proofs.Own.{grouped}
-use Rattle.world_core.proofs.OnWay.{carries-append}
-use Rattle.world_core.proofs.News.{strange-news, IsElses}
-use Rattle.world_core.proofs.Agreement.{else-before, new-token, new-end}
 use Rattle.world_core.proofs.Handshaken.{gives-items}
 use Rattle.world_core.proofs.Moved.{Moved}
 

@@ -1,6 +1,6 @@
 -- How far the messages of an end have landed after an entry, and how far its bytes then reach.
-use Rattle.std.proofs.Common.{◌≡◌, ◌∙◌, ◌==◌, ◌⊎◌, inl, inr, ℕ, ◌+◌, ◌<◌, ◌≤◌, Bool, true, false, if◌then◌else◌, List, [], ◌∷◌, ◌++◌, length, drop, filter, refl, ap, sym, subst, ◌&&◌, arith}
-use Rattle.std.specs.Prelude.{Option, Some}
+use Rattle.std.proofs.Common.{◌≡◌, ◌∙◌, ℕ, ◌+◌, ◌≤◌, true, false, if◌then◌else◌, List, [], ◌∷◌, ◌++◌, length, drop, filter, refl, ap, sym, subst, arith}
+use Rattle.std.specs.Prelude.{Some}
 use Rattle.std.proofs.lemmas.List.{drop-append-le}
 use Rattle.smc_num.specs.declared.Side.{Side}
 use Rattle.smc_num.specs.Names.{other}
@@ -36,7 +36,7 @@ use Rattle.world_core.proofs.Carried.{next-completes}
 use Rattle.world_core.proofs.Follows.{follows}
 use Rattle.world_core.proofs.Grown.{grows}
 use Rattle.world_core.proofs.OnWay.{carries-append, carries-up}
-use Rattle.world_core.proofs.News.{news, go-same}
+use Rattle.world_core.proofs.News.{news}
 use Rattle.world_core.proofs.Stood.{stand-grown}
 
 -- what goes on behind other messages

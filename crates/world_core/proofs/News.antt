@@ -1,8 +1,8 @@
 -- What an entry puts on the wire of a side is the next batch of an end, or nothing of that end.
-use Rattle.std.proofs.Common.{◌≡◌, ◌∙◌, ◌==◌, ◌⊎◌, inl, inr, ℕ, ◌+◌, ◌<◌, ◌≤◌, Bool, true, false, if◌then◌else◌, List, [], ◌∷◌, ◌++◌, length, map, filter, filter_map, refl, ap, sym, subst, ◌&&◌, true≢false, arith, eqb-true, eq-eqb, append-nil}
+use Rattle.std.proofs.Common.{◌≡◌, ◌∙◌, ◌==◌, ◌⊎◌, inl, inr, ℕ, ◌<◌, Bool, true, false, List, [], ◌∷◌, ◌++◌, length, map, filter, filter_map, refl, ap, sym, subst, ◌&&◌, true≢false, arith, eqb-true, append-nil}
 use Rattle.smc_num.specs.Places.{Place}
 use Rattle.std.proofs.lemmas.Nat.{pow_pos}
-use Rattle.std.specs.Prelude.{Option, Some, None, is_some, unwrap_or}
+use Rattle.std.specs.Prelude.{Some, None, is_some, unwrap_or}
 use Rattle.std.specs.List.{cons_option}
 use Rattle.std.proofs.lemmas.List.Elements.{filter-append, filter_map-append}
 use Rattle.smc_num.specs.declared.Side.{Side}
@@ -12,7 +12,6 @@ use Rattle.smc_num.specs.Places.{rmb_at}
 use Rattle.cdc_wire.specs.declared.CdcMessage.{CdcMessage}
 use Rattle.pipe_model.specs.declared.setup.Setup.{Setup}
 use Rattle.pipe_model.specs.declared.post.Post.{Post}
-use Rattle.pipe_model.specs.declared.post.Post.TheVariants.{Write, Cdc, Llc, Clc}
 use Rattle.pipe_model.specs.declared.entry.Entry.{Entry}
 use Rattle.pipe_model.specs.declared.sent.Sent.{Sent}
 use Rattle.pipe_model.specs.Words.{element_size}
@@ -21,10 +20,10 @@ use Rattle.pipe_model.specs.Wires.{is_on}
 use Rattle.pipe_model.specs.Ends.{Half}
 use Rattle.pipe_model.specs.Keys.{last_bound}
 use Rattle.pipe_model.specs.Pipe.{Terms, Item, half, pipe, posts_of}
-use Rattle.pipe_model.specs.Parts.{EachOf, IsFeasible, has_swallow, CarriesFew}
+use Rattle.pipe_model.specs.Parts.{EachOf, CarriesFew}
 use Rattle.pipe_model.specs.Connections.{items, part}
 use Rattle.pipe_model.specs.Lending.{terms_of}
-use Rattle.pipe_model.specs.Posts.{offered_place, cdc_posts, sent_posts, connection_posts}
+use Rattle.pipe_model.specs.Posts.{offered_place, cdc_posts, connection_posts}
 use Rattle.pipe_model.specs.Lawful.{draft}
 use Rattle.pipe_model.proofs.Carried.{carries-few}
 use Rattle.world_core.specs.Played.{IsOneLink, IsPlayed}

@@ -1,5 +1,5 @@
 -- What a wire carries of the bytes of one end: what lands is next in its stream, and batches come behind.
-use Rattle.std.proofs.Common.{◌≡◌, ◌∙◌, ◌==◌, ◌⊎◌, inl, inr, ℕ, ◌+◌, ◌-◌, ◌%◌, ◌<◌, ◌≤◌, Bool, true, false, if◌then◌else◌, List, [], ◌∷◌, ◌++◌, length, refl, ap, sym, subst, true≢false, arith, ◌&&◌, ◌/◌, ◌*◌, filter, nat_le, eqb-true, eq-eqb, leb-true, leb-false}
+use Rattle.std.proofs.Common.{◌≡◌, ◌∙◌, ◌==◌, inl, inr, ℕ, ◌+◌, ◌-◌, ◌%◌, ◌<◌, ◌≤◌, Bool, true, false, if◌then◌else◌, List, [], ◌∷◌, ◌++◌, refl, ap, sym, subst, true≢false, arith, ◌/◌, ◌*◌, filter, nat_le, eqb-true, eq-eqb, leb-true, leb-false}
 use Rattle.std.proofs.lemmas.Nat.{div-add-mod', mod-mul-add, mod_below}
 use Rattle.smc_num.specs.declared.Side.TheVariants.{A, B}
 use Rattle.clc_wire.specs.declared.offer.Offer.{Offer}
@@ -8,13 +8,12 @@ use Rattle.pipe_model.specs.Posts.{writes, offered_place, cdc_posts}
 use Rattle.std.specs.Prelude.{Option, Some, None, is_some, cond}
 use Rattle.smc_num.specs.declared.Side.{Side}
 use Rattle.smc_num.specs.declared.LinkId.{LinkId}
-use Rattle.smc_num.specs.Names.{same_side, same_link}
+use Rattle.smc_num.specs.Names.{same_side}
 use Rattle.smc_num.specs.Places.{Place, address_of}
 use Rattle.cdc_wire.specs.declared.CdcMessage.{CdcMessage}
 use Rattle.pipe_model.specs.declared.post.Post.{Post}
 use Rattle.pipe_model.specs.declared.post.Post.TheVariants.{Write, Cdc, Llc, Clc}
 use Rattle.pipe_model.specs.declared.sent.Sent.{Sent}
-use Rattle.pipe_model.specs.Wires.{is_on}
 use Rattle.world_core.specs.WireSteps.{EachPost}
 use Rattle.world_core.specs.Landed.{next_cdc, carried, Carries}
 use Rattle.world_core.proofs.AskedPosts.{IsControl}

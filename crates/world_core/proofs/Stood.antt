@@ -1,12 +1,12 @@
 -- The bytes of a stream in an element of a buffer: what a landing adds to them, and what leaves them where they stand.
-use Rattle.std.proofs.Common.{◌≡◌, ◌∙◌, ◌⊎◌, inl, inr, ℕ, ◌+◌, ◌-◌, ◌*◌, ◌/◌, ◌%◌, ◌<◌, ◌≤◌, ◌==◌, ◌&&◌, Bool, true, false, List, [], ◌∷◌, ◌++◌, length, take, drop, get_or, sym, ap, subst, refl, arith, true≢false, eqb-true, eq-eqb}
+use Rattle.std.proofs.Common.{◌≡◌, ◌∙◌, ◌⊎◌, inl, inr, ℕ, ◌+◌, ◌-◌, ◌*◌, ◌/◌, ◌%◌, ◌<◌, ◌≤◌, ◌==◌, ◌&&◌, false, List, ◌++◌, length, take, drop, get_or, sym, ap, subst, arith, true≢false, eq-eqb}
 use Rattle.std.proofs.lemmas.Bool.{cases_lt}
 use Rattle.std.proofs.lemmas.Grind.{common_steps}
 use Rattle.std.proofs.lemmas.List.{get_or_append_left, get_or-take, get_or-drop}
 use Rattle.std.proofs.lemmas.Nat.{div-add-mod', mod-mul-add, mod_below, mul-add-lt}
-use Rattle.smc_num.specs.Places.{Place, same_place, rmb_address, element_start, address_of}
+use Rattle.smc_num.specs.Places.{Place, same_place, rmb_address, address_of}
 use Rattle.rmb_region.specs.Regions.{Buffer, IsWhole, IsInside, lands, byte_at}
-use Rattle.rmb_region.proofs.Bytes.{a_landing_keeps_the_buffer_whole, a_landing_writes_its_range, a_landing_leaves_all_else}
+use Rattle.rmb_region.proofs.Bytes.{a_landing_writes_its_range, a_landing_leaves_all_else}
 use Rattle.world_core.specs.Landed.{Stand}
 
 rounds-up : (a b size : ℕ) → 0 < size → a < b → a * size + size ≤ b * size

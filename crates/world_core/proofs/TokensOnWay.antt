@@ -1,12 +1,10 @@
 -- A wire carries no bytes under a token that was not offered, so that a new offer finds none; and what then holds after every played history.
-use Rattle.std.proofs.Common.{◌≡◌, ◌∙◌, ◌==◌, ◌⊎◌, inl, inr, ℕ, ◌+◌, ◌-◌, ◌%◌, ◌<◌, ◌≤◌, Bool, true, false, List, [], ◌∷◌, ◌++◌, zero, suc, length, drop, filter, refl, ap, sym, subst, ◌||◌, true≢false, arith}
-use Rattle.std.specs.Prelude.{Option, Some, None, is_some, slice_index_or}
+use Rattle.std.proofs.Common.{◌≡◌, ◌∙◌, ◌==◌, ◌⊎◌, inl, inr, ℕ, ◌+◌, Bool, true, false, List, [], ◌∷◌, ◌++◌, zero, suc, drop, filter, refl, ap, sym, subst, true≢false, arith}
+use Rattle.std.specs.Prelude.{Option, Some, None, is_some}
 use Rattle.smc_num.specs.declared.Side.{Side}
 use Rattle.smc_num.specs.declared.Side.TheVariants.{A, B}
 use Rattle.smc_num.specs.Names.{other, same_side, head}
-use Rattle.smc_num.specs.Places.{Place, address_of}
-use Rattle.cdc_wire.specs.declared.CdcMessage.{CdcMessage}
-use Rattle.rmb_region.specs.Regions.{Buffer, byte_at}
+use Rattle.smc_num.specs.Places.{Place}
 use Rattle.rmb_region.proofs.Bytes.{a_new_buffer_is_whole}
 use Rattle.pipe_model.specs.declared.setup.Setup.{Setup}
 use Rattle.pipe_model.specs.declared.post.Post.{Post}
@@ -33,7 +31,7 @@ use Rattle.world_core.proofs.Agreement.{agrees, else-before, new-token, new-end}
 use Rattle.world_core.proofs.Batched.{Posts, new-unlanded}
 use Rattle.world_core.proofs.Carrying.{drop-none}
 use Rattle.world_core.proofs.Follows.{follows}
-use Rattle.world_core.proofs.OnWay.{carries-append, carries-up, tells-next}
+use Rattle.world_core.proofs.OnWay.{carries-append, tells-next}
 use Rattle.world_core.proofs.News.{strange-news, IsElses, some-bytes}
 use Rattle.world_core.proofs.Parts.{part-open}
 use Rattle.world_core.proofs.Standing.{AllReach}

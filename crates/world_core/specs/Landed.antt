@@ -1,6 +1,6 @@
 -- What stands in the one RMB of a side: the bytes of each write of the peer that has landed, at the write's address.
 -- A reader learns here which bytes a write carries, and when a wire carries the bytes of an end without a hole.
-use Rattle.std.specs.Prelude.{◌≡◌, ◌⊎◌, ◌<◌, ◌≤◌, ◌==◌, ℕ, ◌+◌, ◌-◌, ◌%◌, Bool, true, false, if◌then◌else◌, List, [], ◌∷◌, ◌++◌, length, map, take, drop, slice_index_or, Option, Some, None, option_map, option_and_then, unwrap_or}
+use Rattle.std.specs.Prelude.{◌≡◌, ◌⊎◌, ◌<◌, ◌≤◌, ◌==◌, ℕ, ◌+◌, ◌-◌, ◌%◌, true, false, if◌then◌else◌, List, [], ◌∷◌, map, take, drop, slice_index_or, Option, Some, None, option_map, option_and_then, unwrap_or}
 use Rattle.smc_num.specs.declared.Side.{Side}
 use Rattle.smc_num.specs.Names.{other, same_side, head}
 use Rattle.smc_num.specs.Places.{Place, address_of}
