@@ -90,7 +90,6 @@ pub mod Senders
 pub mod SentBatches
 pub mod Shaken
 pub mod SmallEnds
-pub mod Sound
 pub mod Standing
 pub mod StandingLendings
 pub mod StartedRows

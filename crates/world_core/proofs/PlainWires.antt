@@ -16,7 +16,7 @@ use Rattle.pipe_model.specs.Parts.{IsMarked}
 use Rattle.rc_link.specs.declared.Carried.{Carried}
 use Rattle.rc_link.specs.Wire.{landed_with}
 use Rattle.world_core.specs.Wired.{cdc_under, returning, HasGone}
-use Rattle.world_core.specs.LinkWorlds.{plain_under, plains, shots}
+use Rattle.world_core.specs.Hosts.{plain_under, plains, shots}
 use Rattle.world_core.proofs.Carried.{Begins, begins, some-left, landing-grows, returning-same, landing-next, returning-next, returned-next}
 
 -- appended posts

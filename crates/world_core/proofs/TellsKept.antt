@@ -18,7 +18,7 @@ use Rattle.rc_link.specs.Wire.{Queues, placed, landed_with}
 use Rattle.world_core.specs.Wired.{cdc_under, returning, HasGone}
 use Rattle.world_core.specs.WireSteps.{Stays, LandsNow, CompletesNow}
 use Rattle.world_core.specs.Goings.{Going, Stayed, Lands_own, Lands_other, Completes_own, Completes_other}
-use Rattle.world_core.specs.LinkWorlds.{plains, shots, TellsPlainly, with_posts}
+use Rattle.world_core.specs.Hosts.{plains, shots, TellsPlainly, with_posts}
 use Rattle.world_core.proofs.Growth.{since-more}
 use Rattle.world_core.proofs.PlainWires.{plains-append, plain-none, plain-some, landed-own, landed-other, still-waits, still-returns, one-lands, one-completes}
 

@@ -11,9 +11,13 @@
 #![tactic(auto)]
 
 mod byte_laws;
-mod connection;
+mod calls;
+mod handshake;
+mod host;
 mod lawful_laws;
 mod laws;
+mod link;
+mod moment;
 mod wire_laws;
 mod world;
 

@@ -1,15 +1,12 @@
--- The world of one link in code: what contracts see of it, and what is true of its parts after a history.
--- A reader learns here, subject by subject, for what of the history the two managers, the two wires and the sockets stand.
+-- The two hosts of a world of one link, and what is true of them after a history.
+-- A reader learns here, subject by subject, for what of the history a manager, its wire and its streams stand, and what an event does to both hosts.
 use Rattle.std.specs.Prelude.{◌≡◌, ◌≤◌, ◌<◌, ℕ, ◌+◌, ◌*◌, ◌^◌, false, List, [], ◌∷◌, ◌++◌, length, map, filter, filter_map, reverse, slice_index_or, Option, Some, None, IfSome, option_map}
 use Rattle.smc_num.specs.declared.Side.{Side}
-use Rattle.smc_num.specs.declared.LinkId.{LinkId}
+use Rattle.smc_num.specs.declared.Side.TheVariants.{A}
 use Rattle.smc_num.specs.Names.{at_side, other, head}
-use Rattle.rmb_region.specs.Regions.{Buffer}
-use Rattle.clc_wire.specs.declared.message.ClcMessage.{ClcMessage}
 use Rattle.pipe_model.specs.declared.snapshot.Snapshot.{Snapshot}
 use Rattle.pipe_model.specs.declared.sent.Sent.{Sent}
 use Rattle.pipe_model.specs.declared.setup.Setup.{Setup}
-use Rattle.pipe_model.specs.declared.setup.Room.{Room}
 use Rattle.pipe_model.specs.declared.entry.Entry.{Entry}
 use Rattle.pipe_model.specs.Words.{elements_of}
 use Rattle.pipe_model.specs.History.{Offered, offered, next_number, numbered}
@@ -21,66 +18,32 @@ use Rattle.pipe_model.specs.Connections.{items, part}
 use Rattle.pipe_model.specs.Fallback.{stream, untaken}
 use Rattle.rc_link.specs.declared.Carried.{Carried}
 use Rattle.rc_link.specs.Wire.{Queues, placed, unlanded as waiting_on, uncompleted as landed_on}
-use Rattle.tcp_pipe.specs.Streams.{Direction}
-use Rattle.conn_end.specs.Kept.{Kept}
 use Rattle.side_core.specs.Setups.{IsSet}
-use Rattle.side_core.specs.Manager.{Manager, StandsFor}
+use Rattle.side_core.specs.Manager.{StandsFor}
 use Rattle.world_core.specs.OneLink.{the_link}
-use Rattle.world_core.specs.Played.{IsOneLink, IsPlayed}
+use Rattle.world_core.specs.Played.{IsOneLink, IsPlayed, handed}
 use Rattle.world_core.specs.Heard.{all_bytes}
-use Rattle.world_core.specs.Managers.{manager_of, HasLendings}
+use Rattle.world_core.specs.Landed.{buffer_of}
+use Rattle.world_core.specs.Managers.{manager_of}
+use Rattle.world_core.specs.Steps.{Seen, entry_of, opening_order, past}
+use Rattle.world_core.specs.Sending.{outflow_at}
+use Rattle.world_core.specs.declared.host.Untaken.{Untaken}
+use Rattle.world_core.specs.declared.host.Outflow.{Outflow}
+use Rattle.world_core.specs.declared.host.Host.{Host}
+use Rattle.world_core.specs.declared.moment.Moment.{Moment}
+use Rattle.pipe_model.specs.declared.event.Event.{Event}
+use Rattle.pipe_model.specs.declared.reply.Reply.{Reply}
+use Rattle.pipe_model.specs.declared.post.Post.{Post}
+use Rattle.pipe_model.specs.Calls.{Told}
+use Rattle.pipe_model.specs.Replies.{told}
+use Rattle.pipe_model.specs.Lawful.{reply_of, posted}
 use Rattle.world_core.specs.Wired.{cdc_under, returning}
 
--- what contracts see of the world: what was set, what has happened, and what was handed out
-pub record Linked : Type 0 where
-  pub setup : Setup
-  pub payload : List ℕ
-  pub room : Room
-  pub history : List Entry
-  pub heard : List ℕ
-
--- a CLC message that its receiver has not taken, with the link that it is about
-pub record Untaken : Type 0 where
-  pub message : ClcMessage
-  pub link : Option LinkId
-
--- one direction of a socket: its bytes, and the CLC message among them that was not taken
-pub record Flowing : Type 0 where
-  pub bytes : Direction
-  pub next : Option Untaken
-
--- the parts in which all moves: the managers of the two sides, the two directions of the link, and those of each socket
-pub record Parts : Type 0 where
-  pub a : Manager Kept
-  pub b : Manager Kept
-  pub from_a : Queues
-  pub from_b : Queues
-  pub streams_a : List Flowing
-  pub streams_b : List Flowing
-
--- the manager of a side
-abbrev pub manager_at : Side → Parts → Manager Kept
-manager_at x p = at_side x p.a p.b
-
--- the wire on which a side posts
-abbrev pub wire_at : Side → Parts → Queues
-wire_at x p = at_side x p.from_a p.from_b
-
--- a socket in which nothing has flowed
-abbrev pub still : Flowing
-still = record { bytes = record { held = []; ended = false; reset = false }; next = None }
-
--- what flows from a side on a socket
-abbrev pub stream_at : Side → ℕ → Parts → Flowing
-stream_at x s p = slice_index_or (at_side x p.streams_a p.streams_b) s still
-
--- the settings of now, and how much may happen
-pub record IsWorldSet (setup : Setup) (payload : List ℕ) (room : Room) : Type 0 where
+-- the settings of now, and how much a payload may be
+pub record IsWorldSet (setup : Setup) (payload : List ℕ) : Type 0 where
   pub one : IsOneLink setup
   pub set : (x : Side) → IsSet setup x
   pub payload_few : length payload < 2 ^ 32
-  pub entries : room.entries ≤ 2 ^ 18
-  pub bytes : room.bytes ≤ 2 ^ 26
 
 -- the end of a side on a socket, as its pipe in the one group has it
 abbrev pub half_of : Setup → List ℕ → Side → ℕ → List Entry → Half
@@ -106,11 +69,6 @@ pub record TellsPlainly (x : Side) (token : ℕ) (w : Queues) (h : Half) : Type 
 -- how many posts of a side the link has places for
 abbrev pub places_of : Setup → Side → ℕ
 places_of setup x = 3 * (setup.depth * elements_of setup x) + 1
-
--- a manager stands for what its side keeps after a history
-pub record IsSideAfter (setup : Setup) (payload : List ℕ) (x : Side) (past : List Entry) (v : Manager Kept) : Type 0 where
-  pub regions : List Buffer
-  pub stands : StandsFor v (manager_of setup payload regions x past)
 
 -- a wire carries what the history has under way on the link, with the plain snapshots
 pub record IsWireAfter (setup : Setup) (payload : List ℕ) (x : Side) (past : List Entry) (w : Queues) : Type 0 where
@@ -138,24 +96,55 @@ pub record IsNext (x : Side) (s : ℕ) (past : List Entry) (next : Option Untake
   pub link : IfSome next (λ u. u.link ≡ option_map (λ o. o.link) (offered x s past))
 
 -- what flows from a side on a socket after a history
-pub record IsStreamAfter (payload : List ℕ) (x : Side) (s : ℕ) (past : List Entry) (f : Flowing) : Type 0 where
+pub record IsStreamAfter (payload : List ℕ) (x : Side) (s : ℕ) (past : List Entry) (f : Outflow) : Type 0 where
   pub held : f.bytes ≡ record { held = stream payload x s past; ended = false; reset = false }
   pub next : IsNext x s past f.next
 
--- all parts stand for what a played history makes of them
-pub record Follows (setup : Setup) (payload : List ℕ) (past : List Entry) (n : ℕ) (p : Parts) : Type 0 where
-  pub played : IsPlayed setup payload past n
-  pub lendings : HasLendings setup payload past
-  pub side : (x : Side) → IsSideAfter setup payload x past (manager_at x p)
-  pub wire : (x : Side) → IsWireAfter setup payload x past (wire_at x p)
-  pub sockets_a : length p.streams_a ≡ setup.sockets
-  pub sockets_b : length p.streams_b ≡ setup.sockets
-  pub streams : (x : Side) (s : ℕ) → s < setup.sockets → IsStreamAfter payload x s past (stream_at x s p)
+-- a host of a side stands for what a history makes of it: its manager, with the bytes that have landed in its RMB, its wire and
+-- its streams
+pub record IsHostAfter (setup : Setup) (payload : List ℕ) (x : Side) (past : List Entry) (h : Host) : Type 0 where
+  pub side : StandsFor h.core (manager_of setup payload (buffer_of setup payload x past ∷ []) x past)
+  pub wire : IsWireAfter setup payload x past h.wire
+  pub sockets : length h.flows.items ≡ setup.sockets
+  pub flows : (s : ℕ) → s < setup.sockets → IsStreamAfter payload x s past (outflow_at s h.flows.items)
 
--- the world and its parts stand for a history in its room
-pub record IsLinkWorld (w : Linked) (p : Parts) : Type 0 where
-  pub set : IsWorldSet w.setup w.payload w.room
-  pub follows : Follows w.setup w.payload (reverse w.history) (length w.heard) p
-  pub heard_is : w.heard ≡ all_bytes w.setup w.payload (reverse w.history)
+-- the two hosts, that of a side and that of its peer, stand for a played history
+pub record AreHostsAfter (setup : Setup) (payload : List ℕ) (past : List Entry) (heard : ℕ) (x : Side) (own theirs : Host) : Type 0 where
+  pub set : IsWorldSet setup payload
+  pub few : length past ≤ 2 ^ 18
+  pub played : IsPlayed setup payload past heard
+  pub own : IsHostAfter setup payload x past own
+  pub theirs : IsHostAfter setup payload (other x) past theirs
+
+-- the entries that an event finds, the newest first
+abbrev pub past_of : Moment → List Entry
+past_of at = reverse at.history.now
+
+-- the hosts before an event
+abbrev pub AreHosts : Moment → Side → Host → Host → Type 0
+AreHosts at x own theirs = AreHostsAfter at.setup.now at.payload.now (past_of at) at.heard x own theirs
+
+-- what an event is told at a moment
+abbrev pub told_at : Moment → Event → Told
+told_at at event = told at.setup.now at.payload.now (past_of at) event
+
+-- an event is played: reply and posts are what the definitions give, and the hosts stand for the history with its entry, whoever
+-- the actor was
+pub record IsPlayedBy (at : Moment) (event : Event) (reply : Reply) (posts : List Post) (x : Side) (own theirs : Host) : Type 0 where
+  pub reply_is : reply ≡ reply_of at.heard (told_at at event)
+  pub posts_are : posts ≡ posted at.setup.now at.payload.now (past_of at) at.heard event
+  pub after : (actor : ℕ) → AreHostsAfter at.setup.now at.payload.now (entry_of at.setup.now at.payload.now (past_of at) at.heard actor event ∷ past_of at)
+      (at.heard + handed (told_at at event)) x own theirs
+
+-- the world and its hosts stand for its history, which fits its room
+pub record IsWorldAfter (w : Seen) (a b : Host) (opened : List ℕ) (history_room heard_room opened_room : ℕ) : Type 0 where
+  pub hosts : AreHostsAfter w.setup w.payload (past w) (length w.heard) A a b
+  pub heard_is : w.heard ≡ all_bytes w.setup w.payload (past w)
+  pub order : opened ≡ opening_order (past w)
   pub entries : length w.history ≤ w.room.entries
   pub bytes : length w.heard ≤ w.room.bytes
+  pub most_entries : w.room.entries ≤ 2 ^ 18
+  pub most_bytes : w.room.bytes ≤ 2 ^ 26
+  pub entries_fit : w.room.entries ≤ history_room
+  pub bytes_fit : w.room.bytes ≤ heard_room
+  pub opened_fit : w.setup.sockets ≤ opened_room
