@@ -12,6 +12,7 @@ pub mod OneLink
 pub mod Played
 pub mod Room
 pub mod Sending
+pub mod Settings
 pub mod Sockets
 pub mod Steps
 pub mod Views

@@ -2,13 +2,14 @@
 -- A reader learns here what a host keeps of them, and what leaves a wire or a stream with an event.
 use Rattle.std.specs.Prelude.{◌≡◌, ◌×◌, ◌<◌, ℕ, ◌+◌, Bool, true, false, if◌then◌else◌, List, [], ◌∷◌, ◌++◌, take, drop, length, filter, slice_index_or, slice_set, Option, Some, None, IsSome, option_map, unwrap_or}
 use Rattle.smc_num.specs.declared.Side.{Side}
-use Rattle.smc_num.specs.Names.{same_side}
+use Rattle.smc_num.specs.declared.Side.TheVariants.{A}
+use Rattle.smc_num.specs.Names.{same_side, other}
 use Rattle.smc_num.specs.declared.LinkId.{LinkId}
 use Rattle.clc_wire.specs.declared.message.ClcMessage.{ClcMessage}
 use Rattle.clc_wire.specs.Clc.{clc_bytes, clc_length}
 use Rattle.pipe_model.specs.declared.snapshot.Snapshot.{Snapshot}
 use Rattle.pipe_model.specs.declared.event.Event.{Event}
-use Rattle.pipe_model.specs.declared.event.Event.TheVariants.{Deliver, Complete}
+use Rattle.pipe_model.specs.declared.event.Event.TheVariants.{Write as WriteEvent, Read, Clc as ClcEvent, Deliver, Complete}
 use Rattle.pipe_model.specs.declared.post.Post.{Post}
 use Rattle.pipe_model.specs.declared.post.Post.TheVariants.{Write, Cdc, Llc, Clc}
 use Rattle.pipe_model.specs.Ends.{Half}
@@ -72,6 +73,15 @@ abbrev pub moved : Side → Event → Queues → Queues
 moved x (Deliver slot dir) w = if same_side x dir then with_landed (landing w) w else w
 moved x (Complete slot dir) w = if same_side x dir then with_completed (completing w) w else w
 moved x _ w = w
+
+-- the side that posts with an event: that which calls, which takes a message, to which a post completes, or which opens
+abbrev pub acting_side : Event → Side
+acting_side (WriteEvent end at len) = end.side
+acting_side (Read end len) = end.side
+acting_side (ClcEvent s dir) = other dir
+acting_side (Deliver slot dir) = other dir
+acting_side (Complete slot dir) = dir
+acting_side _ = A
 
 -- that a post may be sent: the token of a CDC message names an end, and a CLC message a socket that there is
 abbrev pub MaySend : ℕ → Manager Kept → Post → Type 0

@@ -18,6 +18,7 @@ mod lawful_laws;
 mod laws;
 mod link;
 mod moment;
+mod settings;
 mod wire_laws;
 mod world;
 
@@ -38,6 +39,7 @@ pub use laws::{
     the_link_and_the_sockets_are_somewhere, the_link_is_not_dead, tokens_tell_sockets_apart,
 };
 pub use pipe_model::StepFault;
+pub use settings::{BadField, Field};
 pub use wire_laws::{
     an_entry_gives_deeds_and_fates, no_end_closes, no_lending_was_ever_over, no_message_is_dropped,
     offers_differ_in_their_tokens, own_messages_are_those_under_the_token,
