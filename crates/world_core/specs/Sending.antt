@@ -1,6 +1,6 @@
 -- How the posts of an entry leave a host: CLC messages into the streams of their sockets, all others on the wire of the link.
 -- A reader learns here what a host keeps of them, and what leaves a wire or a stream with an event.
-use Rattle.std.specs.Prelude.{◌≡◌, ◌×◌, ◌<◌, ℕ, ◌+◌, Bool, true, false, if◌then◌else◌, List, [], ◌∷◌, ◌++◌, take, drop, length, filter, slice_index_or, slice_set, Option, Some, None, IsSome, option_map, unwrap_or}
+use Rattle.std.specs.Prelude.{◌<◌, ℕ, ◌+◌, Bool, true, false, if◌then◌else◌, List, [], ◌∷◌, ◌++◌, take, drop, slice_index_or, slice_set, Option, Some, None, IsSome, option_map, unwrap_or}
 use Rattle.smc_num.specs.declared.Side.{Side}
 use Rattle.smc_num.specs.declared.Side.TheVariants.{A}
 use Rattle.smc_num.specs.Names.{same_side, other}
@@ -11,7 +11,7 @@ use Rattle.pipe_model.specs.declared.snapshot.Snapshot.{Snapshot}
 use Rattle.pipe_model.specs.declared.event.Event.{Event}
 use Rattle.pipe_model.specs.declared.event.Event.TheVariants.{Write as WriteEvent, Read, Clc as ClcEvent, Deliver, Complete}
 use Rattle.pipe_model.specs.declared.post.Post.{Post}
-use Rattle.pipe_model.specs.declared.post.Post.TheVariants.{Write, Cdc, Llc, Clc}
+use Rattle.pipe_model.specs.declared.post.Post.TheVariants.{Cdc, Clc}
 use Rattle.pipe_model.specs.declared.post.PostRef.{PostRef}
 use Rattle.pipe_model.specs.Ends.{Half}
 use Rattle.tcp_pipe.specs.Streams.{free}
@@ -20,7 +20,6 @@ use Rattle.rc_link.specs.Wire.{Queues, with_post, landing, completing, with_land
 use Rattle.conn_end.specs.Kept.{Kept}
 use Rattle.side_core.specs.Records.{aimer, half_at}
 use Rattle.side_core.specs.Manager.{Manager}
-use Rattle.world_core.specs.declared.host.Untaken.{Untaken}
 use Rattle.world_core.specs.declared.host.Outflow.{Outflow}
 
 -- a snapshot that tells nothing

@@ -1,5 +1,5 @@
 //! One peer with all that goes out from it: its manager, its posts on the link, and its TCP streams.
-ghost use Rattle.std.specs.Prelude.{◌≡◌, ◌≤◌, ◌<◌, length, filter, replicate, slice_set, true, IfOk};
+ghost use Rattle.std.specs.Prelude.{◌≡◌, ◌≤◌, ◌<◌, ◌-◌, length, filter, replicate, slice_set, if◌then◌else◌, false, true, IfOk};
 ghost use Rattle.clc_wire.specs.Clc.{Fits};
 ghost use Rattle.pipe_model.specs.Ends.{Half};
 ghost use Rattle.rc_link.specs.Wire.{empty, room_of};
@@ -90,10 +90,14 @@ impl Host {
         ensures core { self.new.core ≡ self.old.core }
         ensures wire { (m : Manager Half) → StandsFor self.old.core m → self.new.wire ≡ posts_one m at post.now self.old.wire }
         ensures flows { self.new.flows.items ≡ puts_one post.now self.old.flows.items }
+        ensures room { room_of self.new.wire ≡ room_of self.old.wire - (if goes_on_wire post.now then 1 else 0) }
     {
         match *post {
             Post::Clc {
-                s, link, message, ..
+                s,
+                link,
+                message,
+                ..
             } => self.say(s, link, &message),
             Post::Cdc { message, .. } => {
                 let plain = self.core.last(message.token);
