@@ -147,4 +147,4 @@ pub record IsWorldAfter (w : Seen) (a b : Host) (opened : List ℕ) (history_roo
   pub most_bytes : w.room.bytes ≤ 2 ^ 26
   pub entries_fit : w.room.entries ≤ history_room
   pub bytes_fit : w.room.bytes ≤ heard_room
-  pub opened_fit : w.setup.sockets ≤ opened_room
+  pub opened_fit : w.room.entries ≤ opened_room
