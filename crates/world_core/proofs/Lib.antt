@@ -11,6 +11,7 @@ pub mod CallEntries
 pub mod Carried
 pub mod Carrying
 pub mod ClcMoves
+pub mod CompletionEntries
 pub mod ConfirmEntries
 pub mod ConfirmManagers
 pub mod Confirmations
@@ -35,6 +36,7 @@ pub mod Handshaken
 pub mod Handshakes
 pub mod Heads
 pub mod HomeLandings
+pub mod HostsKept
 pub mod Idle
 pub mod InHistory
 pub mod KeptManagers
