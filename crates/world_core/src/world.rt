@@ -92,8 +92,8 @@ fn act(
     requires before { vec_len heard.old ≡ moment.heard }
     requires room { vec_len heard.old + handed (told_at moment event) ≤ vec_capacity heard.old }
     requires none { posts.old.items ≡ [] }
-    ensures played { IsPlayedBy moment event result posts.new.items A a.new b.new }
-    ensures heard { heard.new.items ≡ heard.old.items ++ told_bytes (told_at moment event) }
+    ensures played { IsPlayedBy moment.entry event result posts.new.items A a.new b.new }
+    ensures heard { heard.new.items ≡ heard.old.items ++ told_bytes (told_at moment.entry event) }
     ensures capacity { vec_capacity heard.old ≤ vec_capacity heard.new }
 {
     match event {
