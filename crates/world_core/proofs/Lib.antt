@@ -105,8 +105,10 @@ pub mod TakenMessages
 pub mod TellsKept
 pub mod Tokens
 pub mod TokensOnWay
+pub mod Unmade
 pub mod UpEnds
 pub mod Verdicts
 pub mod Ways
 pub mod WireEntries
 pub mod WireKept
+pub mod WireMoves
