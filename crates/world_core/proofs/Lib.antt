@@ -90,6 +90,7 @@ pub mod Senders
 pub mod SentBatches
 pub mod Shaken
 pub mod SmallEnds
+pub mod SoundEnds
 pub mod Standing
 pub mod StandingLendings
 pub mod StartedRows
