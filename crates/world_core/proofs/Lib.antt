@@ -21,6 +21,7 @@ pub mod Declines
 pub mod DirectedWrites
 pub mod Due
 pub mod DuePosts
+pub mod EndRecords
 pub mod EndedRows
 pub mod EntryItems
 pub mod EstablishedManagers
