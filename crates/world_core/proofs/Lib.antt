@@ -22,6 +22,7 @@ pub mod Declines
 pub mod DirectedWrites
 pub mod Due
 pub mod DuePosts
+pub mod EndRecords
 pub mod EndedRows
 pub mod EntryItems
 pub mod EstablishedManagers
@@ -92,6 +93,7 @@ pub mod Senders
 pub mod SentBatches
 pub mod Shaken
 pub mod SmallEnds
+pub mod SoundEnds
 pub mod Standing
 pub mod StandingLendings
 pub mod StartedRows
