@@ -114,3 +114,4 @@ pub mod Ways
 pub mod WireEntries
 pub mod WireKept
 pub mod WireMoves
+pub mod LinkTold
