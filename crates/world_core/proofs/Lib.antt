@@ -11,6 +11,7 @@ pub mod CallEntries
 pub mod Carried
 pub mod Carrying
 pub mod ClcMoves
+pub mod CompletionEntries
 pub mod ConfirmEntries
 pub mod ConfirmManagers
 pub mod Confirmations
@@ -21,6 +22,7 @@ pub mod Declines
 pub mod DirectedWrites
 pub mod Due
 pub mod DuePosts
+pub mod EndRecords
 pub mod EndedRows
 pub mod EntryItems
 pub mod EstablishedManagers
@@ -35,6 +37,7 @@ pub mod Handshaken
 pub mod Handshakes
 pub mod Heads
 pub mod HomeLandings
+pub mod HostsKept
 pub mod Idle
 pub mod InHistory
 pub mod KeptManagers
@@ -91,6 +94,7 @@ pub mod Senders
 pub mod SentBatches
 pub mod Shaken
 pub mod SmallEnds
+pub mod SoundEnds
 pub mod Standing
 pub mod StandingLendings
 pub mod StartedRows
@@ -104,8 +108,11 @@ pub mod TakenMessages
 pub mod TellsKept
 pub mod Tokens
 pub mod TokensOnWay
+pub mod Unmade
 pub mod UpEnds
 pub mod Verdicts
 pub mod Ways
 pub mod WireEntries
 pub mod WireKept
+pub mod WireMoves
+pub mod LinkTold
