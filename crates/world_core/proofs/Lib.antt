@@ -33,11 +33,13 @@ pub mod Follows
 pub mod Groups
 pub mod Grown
 pub mod Growth
+pub mod HandStubs
 pub mod Handshaken
 pub mod Handshakes
 pub mod Heads
 pub mod HomeLandings
 pub mod HostsKept
+pub mod HostsOn
 pub mod Idle
 pub mod InHistory
 pub mod KeptManagers
@@ -54,6 +56,7 @@ pub mod LinkFacts
 pub mod LinkManagers
 pub mod LinkMoves
 pub mod LinkRoom
+pub mod LinkTold
 pub mod Lists
 pub mod Moved
 pub mod Moves
@@ -68,6 +71,7 @@ pub mod OneSender
 pub mod OpenEnds
 pub mod OpenManagers
 pub mod Openings
+pub mod OpeningsAfter
 pub mod Own
 pub mod Parts
 pub mod PipePosts
@@ -89,8 +93,8 @@ pub mod RisenEnds
 pub mod RisenPosts
 pub mod Rising
 pub mod SameManagers
-pub mod Sends
 pub mod Senders
+pub mod Sends
 pub mod SentBatches
 pub mod Shaken
 pub mod SmallEnds
@@ -115,4 +119,3 @@ pub mod Ways
 pub mod WireEntries
 pub mod WireKept
 pub mod WireMoves
-pub mod LinkTold
