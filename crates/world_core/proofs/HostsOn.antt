@@ -23,7 +23,7 @@ use Rattle.world_core.specs.OneLink.{the_link}
 use Rattle.world_core.specs.Played.{IsBuilt, IsMade, IsPlayed, handed}
 use Rattle.world_core.specs.WireSteps.{landing_now}
 use Rattle.world_core.specs.Landed.{buffer_of}
-use Rattle.world_core.specs.Managers.{manager_of, hand_of}
+use Rattle.world_core.specs.Managers.{manager_of, hand_of, HasLendings}
 use Rattle.world_core.proofs.Tables.{sockets-long}
 use Rattle.world_core.specs.Steps.{entry_of}
 use Rattle.world_core.specs.Sending.{acting_side, moved, carried_from, goes_on_wire, puts_one, puts_all, MaySendAll}
@@ -33,7 +33,7 @@ use Rattle.std.proofs.lemmas.List.{length-reverse}
 use Rattle.world_core.proofs.QuietEvents.{entry-of, by-side}
 use Rattle.world_core.proofs.Sends.{same_length}
 use Rattle.world_core.proofs.HostsKept.{buffer-kept, unposted}
-use Rattle.world_core.proofs.HandStubs.{Flowing, own-flows, wire-own, wire-theirs, room-own, may-send}
+use Rattle.world_core.proofs.HandStubs.{Flowing, has-lendings, own-flows, wire-own, wire-theirs, room-own, may-send}
 
 pub twice : (x : Side) → other (other x) ≡ x
 twice = by-side (λ x. other (other x) ≡ x) refl refl
@@ -55,6 +55,9 @@ module _ (setup : Setup) (payload : List ℕ) (past : List Entry) (heard : ℕ) 
   played : IsPlayed setup payload (entry_of setup payload past heard actor event ∷ past) (heard + handed (told setup payload past event))
   played = (heard, made, refl, before.played)
 
+  lendings-then : HasLendings setup payload (entry_of setup payload past heard actor event ∷ past)
+  lendings-then = let set = before.set in has-lendings setup set.one payload (entry_of setup payload past heard actor event ∷ past) (heard + handed (told setup payload past event)) played
+
   -- the manager of a side after the entry, with the buffer before it
   abbrev pub manager-then : Side → Manager Half
   manager-then y = manager_of setup payload (buffer_of setup payload y past ∷ []) y (entry_of setup payload past heard actor event ∷ past)
@@ -72,9 +75,9 @@ module _ (setup : Setup) (payload : List ℕ) (past : List Entry) (heard : ℕ) 
       let own = before.own in
       let set = before.set in (
         subst (λ n. MaySendAll n v posts) (sym own.sockets) (subst (λ ps. MaySendAll setup.sockets v ps) (sym is)
-          (may-send setup set.one payload (entry_of setup payload past heard actor event) past (heard + handed (told setup payload past event)) played (buffer_of setup payload (acting_side event) past ∷ []) v st)),
+          (may-send setup set.one payload (entry_of setup payload past heard actor event) past (heard + handed (told setup payload past event)) played lendings-then (acting_side event) refl (buffer_of setup payload (acting_side event) past ∷ []) v st)),
         subst (λ w. length (filter goes_on_wire posts) ≤ room_of w) (unmoved (acting_side event) h.wire) (subst (λ ps. length (filter goes_on_wire ps) ≤ room_of (moved (acting_side event) event h.wire)) (sym is)
-          (room-own setup set.one payload (entry_of setup payload past heard actor event) past (heard + handed (told setup payload past event)) played h.wire own.wire))
+          (room-own setup set.one payload (entry_of setup payload past heard actor event) past (heard + handed (told setup payload past event)) played (acting_side event) refl h.wire own.wire))
       )
 
   -- the host that has sent what is posted
@@ -93,7 +96,7 @@ module _ (setup : Setup) (payload : List ℕ) (past : List Entry) (heard : ℕ) 
       record {
         side = stands-then (acting_side event) g.core st;
         wire = subst (λ w. IsWireAfter setup payload (acting_side event) (entry_of setup payload past heard actor event ∷ past) w) wire-is
-            (wire-own setup set.one payload (entry_of setup payload past heard actor event) past (heard + handed (told setup payload past event)) played (buffer_of setup payload (acting_side event) past ∷ []) h.wire own.wire);
+            (wire-own setup set.one payload (entry_of setup payload past heard actor event) past (heard + handed (told setup payload past event)) played lendings-then (acting_side event) refl (buffer_of setup payload (acting_side event) past ∷ []) h.wire own.wire);
         sockets = ap length flows ∙ (same_lengths posts h.flows.items ∙ own.sockets);
         flows = subst (λ fs. Flowing payload setup.sockets (acting_side event) (entry_of setup payload past heard actor event ∷ past) fs) flows-are
             (own-flows setup set.one payload (entry_of setup payload past heard actor event) past (heard + handed (told setup payload past event)) played h.flows.items own.sockets own.flows (λ s. silent s (reply_of heard (told setup payload past event))));

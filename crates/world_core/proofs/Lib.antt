@@ -106,6 +106,7 @@ pub mod StillEntries
 pub mod StillLent
 pub mod Stood
 pub mod Tables
+pub mod TakingsAfter
 pub mod TakenAlone
 pub mod TakenAnswers
 pub mod TakenMessages
