@@ -28,6 +28,7 @@ pub mod FallenManagers
 pub mod Feasible
 pub mod FewUps
 pub mod Follows
+pub mod FreshEnds
 pub mod Groups
 pub mod Grown
 pub mod Growth
