@@ -347,4 +347,3 @@ module _ (setup : Setup) (one : IsOneLink setup) (payload : List ℕ) where
           ∙ (ap (λ b. met_if b (half x (pipe_of setup payload 1 s past))) (by-side (λ y. which y (comes_live (held A from) (held A to)) (comes_live (held B from) (held B to)) ≡ comes_live (held y from) (held y to)) refl refl x)
           ∙ (ap (λ h. met_if (comes_live (held x from) (held x to)) h) (as_made x)
           ∙ (learns setup.number (held x from) (held x to) (lasts x) ∙ sym (known-of setup.number (table_of x (e ∷ past)) (held x to) (table-now to (e ∷ past) now.world x))))))))
-
