@@ -43,6 +43,7 @@ pub mod KeyedEnds
 pub mod KnownEntries
 pub mod Landed
 pub mod Landings
+pub mod LastingLendings
 pub mod LaterConfirms
 pub mod LaterManagers
 pub mod LawfulPasts
