@@ -11,6 +11,7 @@ pub mod CallEntries
 pub mod Carried
 pub mod Carrying
 pub mod ClcMoves
+pub mod ClcTaken
 pub mod ConfirmEntries
 pub mod ConfirmManagers
 pub mod Confirmations
