@@ -3,6 +3,7 @@ pub mod AcceptManagers
 pub mod ActedEnds
 pub mod Agreed
 pub mod Agreement
+pub mod AllLendings
 pub mod AskedPosts
 pub mod Batched
 pub mod Batches
@@ -11,6 +12,7 @@ pub mod CallEntries
 pub mod Carried
 pub mod Carrying
 pub mod ClcMoves
+pub mod ClcTaken
 pub mod CompletionEntries
 pub mod ConfirmEntries
 pub mod ConfirmManagers
@@ -30,6 +32,7 @@ pub mod FallenManagers
 pub mod Feasible
 pub mod FewUps
 pub mod Follows
+pub mod FreshEnds
 pub mod Groups
 pub mod Grown
 pub mod Growth
@@ -47,6 +50,9 @@ pub mod KeyedEnds
 pub mod KnownEntries
 pub mod Landed
 pub mod Landings
+pub mod LastingLendings
+pub mod LaterConfirms
+pub mod LaterManagers
 pub mod LawfulPasts
 pub mod LendingFacts
 pub mod Lendings
@@ -106,10 +112,11 @@ pub mod StillEntries
 pub mod StillLent
 pub mod Stood
 pub mod Tables
-pub mod TakingsAfter
 pub mod TakenAlone
 pub mod TakenAnswers
 pub mod TakenMessages
+pub mod TakenMessagesAll
+pub mod TakingsAfter
 pub mod TellsKept
 pub mod Tokens
 pub mod TokensOnWay
