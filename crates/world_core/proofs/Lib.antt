@@ -3,6 +3,7 @@ pub mod AcceptManagers
 pub mod ActedEnds
 pub mod Agreed
 pub mod Agreement
+pub mod AskedFrom
 pub mod AskedPosts
 pub mod Batched
 pub mod Batches
