@@ -76,6 +76,7 @@ pub mod PlainPosts
 pub mod PlainWires
 pub mod PlayedWorlds
 pub mod Quiet
+pub mod PostsFrom
 pub mod QuietEntries
 pub mod QuietEvents
 pub mod QuietManagers
