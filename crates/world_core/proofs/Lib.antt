@@ -43,6 +43,7 @@ pub mod KeyedEnds
 pub mod KnownEntries
 pub mod Landed
 pub mod Landings
+pub mod LastSent
 pub mod LawfulPasts
 pub mod LendingFacts
 pub mod Lendings
