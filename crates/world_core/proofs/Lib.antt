@@ -3,6 +3,7 @@ pub mod AcceptManagers
 pub mod ActedEnds
 pub mod Agreed
 pub mod Agreement
+pub mod Aimers
 pub mod AskedFrom
 pub mod AskedPosts
 pub mod Batched
@@ -113,3 +114,4 @@ pub mod Ways
 pub mod WireEntries
 pub mod WireKept
 pub mod WireMoves
+pub mod WiresAfter
