@@ -11,6 +11,7 @@ pub mod Batches
 pub mod BoundKeys
 pub mod CallEntries
 pub mod Carried
+pub mod CarriedPosts
 pub mod Carrying
 pub mod ClcMoves
 pub mod ConfirmEntries
