@@ -70,6 +70,7 @@ pub mod OpenEnds
 pub mod OpenManagers
 pub mod Openings
 pub mod Own
+pub mod OwnWires
 pub mod Parts
 pub mod PipePosts
 pub mod PipeSteps

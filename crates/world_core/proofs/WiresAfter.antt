@@ -91,6 +91,12 @@ none-mapped : {X Y : Type 0} (f : X → Y) (xs : List X) → map f xs ≡ [] →
 none-mapped f [] e = refl
 none-mapped f (x ∷ xs) e = absurd (true≢false (ap (λ ys. is_some (head ys)) e))
 
+-- what a wire carries with posts, the plain snapshots apart
+pub record CarriesAfter (setup : Setup) (x : Side) (e : Entry) (past : List Entry) (cs : List Carried) (v : Queues) : Type 0 where
+  pub places : v.places ≡ places_of setup x
+  pub waiting : map placed (v.waiting ++ cs) ≡ unlanded the_link x (e ∷ past)
+  pub landed : map placed v.landed ≡ uncompleted the_link x (e ∷ past)
+
 module _ (setup : Setup) (one : IsOneLink setup) (payload : List ℕ) (e : Entry) (past : List Entry) (n : ℕ) (p : IsPlayed setup payload (e ∷ past) n) where
   made : IsMade setup payload past p.0 e
   made = p.1
@@ -120,7 +126,7 @@ module _ (setup : Setup) (one : IsOneLink setup) (payload : List ℕ) (e : Entry
   abbrev Posts_of : Side → ℕ → List Sent
   Posts_of x s = posts_of (terms_of setup) x (items payload 1 s e past) (part payload 1 s past)
 
-  goes : (x : Side) (s : ℕ) (o : Offered) → offered (other x) s past ≡ Some o → Going the_link x o.offer.token e past (Now x s) (Then x s)
+  pub goes : (x : Side) (s : ℕ) (o : Offered) → offered (other x) s past ≡ Some o → Going the_link x o.offer.token e past (Now x s) (Then x s)
   goes x s o f = gone setup payload e past p.0 p.0 made p.3 offers only gives.goes_on knows agree x s o f
 
   marked : (x : Side) (s : ℕ) → IsMarked (Now x s)
@@ -139,6 +145,23 @@ module _ (setup : Setup) (one : IsOneLink setup) (payload : List ℕ) (e : Entry
       by (Lands_own l m k g) = so _ _ g
       by (Completes_other l k g) = so _ _ g
       by (Completes_own l m k g r) = so _ _ g
+
+  -- the posts of a wire, with those of the entry
+  module _ (x : Side) (w : Queues) (wire : IsWireAfter setup payload x past w) (cs : List Carried) (are : map placed cs ≡ filter (λ c. is_on the_link x c.post) (numbered (next_number past) 1 e.posts)) where
+    carries-by : Moving x e past w → CarriesAfter setup x e past cs (moved x e.event w)
+    carries-by (Moves_none s m) = subst (λ v. CarriesAfter setup x e past cs v) (sym m)
+        (record { places = wire.places; waiting = stays-waiting the_link x e past cs are w wire.waiting wire.landed s; landed = stays-landed the_link x e past cs are w wire.waiting wire.landed s })
+    carries-by (Moves_landed l m) =
+        let f = front-waits the_link x e past cs are w wire.waiting wire.landed l in
+        subst (λ v. CarriesAfter setup x e past cs v) (sym (m ∙ ap (λ ds. with_landed (head ds) w) f.is))
+        (record { places = wire.places; waiting = lands-waiting the_link x e past cs are w wire.waiting wire.landed l; landed = lands-landed the_link x e past cs are w wire.waiting wire.landed l })
+    carries-by (Moves_completed l m) =
+        let f = front-landed the_link x e past cs are w wire.waiting wire.landed l in
+        subst (λ v. CarriesAfter setup x e past cs v) (sym (m ∙ ap (λ ds. with_completed (head ds) w) f.is))
+        (record { places = wire.places; waiting = completes-waiting the_link x e past cs are w wire.waiting wire.landed l; landed = completes-landed the_link x e past cs are w wire.waiting wire.landed l })
+
+    pub wire-carries : CarriesAfter setup x e past cs (moved x e.event w)
+    wire-carries = carries-by (moving setup one payload past p.0 p.3 p.0 e made x w wire)
 
   module _ (x : Side) (w : Queues) (wire : IsWireAfter setup payload x past w) (cs : List Carried) (are : map placed cs ≡ filter (λ c. is_on the_link x c.post) (numbered (next_number past) 1 e.posts))
       (plain : (s : ℕ) (o : Offered) → offered (other x) s past ≡ Some o → plains x o.offer.token cs ≡ shots (Posts_of x s)) where
