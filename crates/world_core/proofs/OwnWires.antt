@@ -1,25 +1,21 @@
 -- After each entry of a played history the wire of the side that acts stands for it again, has had room for the posts, and each may be sent.
-use Rattle.std.proofs.Common.{◌≡◌, ◌∙◌, ◌==◌, ◌⊎◌, inl, inr, ℕ, ◌+◌, ◌-◌, ◌*◌, ◌<◌, ◌≤◌, Bool, true, false, List, [], ◌∷◌, ◌++◌, length, drop, map, filter, filter_map, refl, ap, sym, subst, true≢false, arith, length-append}
-use Rattle.std.specs.Prelude.{Option, Some, None, IsSome, is_some, option_map, unwrap_or}
+use Rattle.std.proofs.Common.{◌≡◌, ◌∙◌, ℕ, ◌+◌, ◌*◌, ◌≤◌, Bool, true, false, List, [], ◌∷◌, ◌++◌, length, map, filter, filter_map, refl, ap, sym, subst, true≢false, arith, length-append}
+use Rattle.std.specs.Prelude.{Option, Some, None, IsSome, is_some}
 use Rattle.std.proofs.lemmas.List.{length-map}
 use Rattle.smc_num.specs.declared.Side.{Side}
-use Rattle.smc_num.specs.declared.LinkId.{LinkId}
 use Rattle.smc_num.specs.Names.{other, head}
 use Rattle.cdc_wire.specs.declared.CdcMessage.{CdcMessage}
 use Rattle.rmb_region.specs.Regions.{Buffer}
-use Rattle.pipe_model.specs.declared.snapshot.Snapshot.{Snapshot}
 use Rattle.pipe_model.specs.declared.sent.Sent.{Sent}
 use Rattle.pipe_model.specs.declared.setup.Setup.{Setup}
 use Rattle.pipe_model.specs.declared.post.Post.{Post}
-use Rattle.pipe_model.specs.declared.post.Post.TheVariants.{Write, Cdc, Llc, Clc}
-use Rattle.pipe_model.specs.declared.post.Placed.{Placed}
 use Rattle.pipe_model.specs.declared.entry.Entry.{Entry}
 use Rattle.pipe_model.specs.Words.{element_size, elements_of}
-use Rattle.pipe_model.specs.History.{Offered, offered, next_number, numbered}
-use Rattle.pipe_model.specs.Wires.{is_on, unlanded, uncompleted}
+use Rattle.pipe_model.specs.History.{Offered, offered, next_number}
+use Rattle.pipe_model.specs.Wires.{unlanded, uncompleted}
 use Rattle.pipe_model.specs.Ends.{Half}
-use Rattle.pipe_model.specs.Pipe.{half, pipe, posts_of}
-use Rattle.pipe_model.specs.Connections.{is_up, group_on, items, part}
+use Rattle.pipe_model.specs.Pipe.{half, posts_of}
+use Rattle.pipe_model.specs.Connections.{is_up, items, part}
 use Rattle.pipe_model.specs.Lending.{terms_of, pipe_of}
 use Rattle.pipe_model.specs.Lawful.{draft}
 use Rattle.rc_link.specs.declared.Carried.{Carried}
@@ -30,13 +26,13 @@ use Rattle.side_core.specs.Manager.{Manager, StandsFor}
 use Rattle.side_core.proofs.Allowed.{aimers_same}
 use Rattle.world_core.specs.Played.{IsOneLink, IsPlayed}
 use Rattle.world_core.specs.OneLink.{the_link}
-use Rattle.world_core.specs.Wired.{cdc_under, message, HasGone}
+use Rattle.world_core.specs.Wired.{cdc_under, message}
 use Rattle.world_core.specs.WireSteps.{EachPost}
 use Rattle.world_core.specs.Goings.{Going, Stayed, Lands_own, Lands_other, Completes_own, Completes_other}
 use Rattle.world_core.specs.Agreement.{HasOffers, GivesItems, GoesOn, IsShaken, PostsOne}
-use Rattle.world_core.specs.Managers.{manager_of, end_of, HasLendings}
-use Rattle.world_core.specs.Hosts.{half_of, plains, shots, places_of, IsWireAfter, with_posts}
-use Rattle.world_core.specs.Sending.{carried_from, goes_on_wire, moved, acting_side, MaySend, MaySendAll, plain_of}
+use Rattle.world_core.specs.Managers.{manager_of, HasLendings}
+use Rattle.world_core.specs.Hosts.{half_of, plains, shots, IsWireAfter, with_posts}
+use Rattle.world_core.specs.Sending.{carried_from, goes_on_wire, moved, acting_side, MaySend, MaySendAll}
 use Rattle.world_core.proofs.Handshaken.{shaken, has-offers, gives-items}
 use Rattle.world_core.proofs.PlayedWorlds.{played}
 use Rattle.world_core.proofs.Idle.{idle}
@@ -47,7 +43,7 @@ use Rattle.world_core.proofs.LinkFacts.{up-has-offers}
 use Rattle.world_core.proofs.FewUps.{fits-elements}
 use Rattle.world_core.proofs.LastSent.{last-told}
 use Rattle.world_core.proofs.Aimers.{aimed, plain-here}
-use Rattle.world_core.proofs.PostsFrom.{IsSentBy, ArePosts, posts-from, of-acting, each-posted}
+use Rattle.world_core.proofs.PostsFrom.{IsSentBy, posts-from, of-acting, each-posted}
 use Rattle.world_core.proofs.CarriedPosts.{carried-placed, carried-long, carried-plain, told_by, one-cdc}
 use Rattle.world_core.proofs.WiresAfter.{goes, news-sent, wire-with, wire-carries, CarriesAfter}
 

@@ -20,19 +20,19 @@ use Rattle.pipe_model.specs.declared.post.Post.TheVariants.{Write, Cdc, Llc, Clc
 use Rattle.pipe_model.specs.declared.post.Placed.{Placed}
 use Rattle.pipe_model.specs.declared.entry.Entry.{Entry}
 use Rattle.pipe_model.specs.declared.sent.Sent.{Sent}
-use Rattle.pipe_model.specs.Words.{element_size, passes}
+use Rattle.pipe_model.specs.Words.{element_size}
 use Rattle.pipe_model.specs.Snapshot.{spelled, validation}
-use Rattle.pipe_model.specs.History.{Offered, offered, next_number, numbered}
+use Rattle.pipe_model.specs.History.{Offered, next_number, numbered}
 use Rattle.pipe_model.specs.Wires.{is_on, unlanded}
 use Rattle.pipe_model.specs.Calls.{Writes, Reads}
-use Rattle.pipe_model.specs.Pipe.{Item, Lands, Completes, posts_of}
-use Rattle.pipe_model.specs.Connections.{deeds, items, part, group_on, landed_at, completed_at}
+use Rattle.pipe_model.specs.Pipe.{Lands, Completes, posts_of}
+use Rattle.pipe_model.specs.Connections.{deeds, items, part, landed_at, completed_at}
 use Rattle.pipe_model.specs.Lending.{terms_of}
 use Rattle.pipe_model.specs.Keys.{last_bound}
-use Rattle.pipe_model.specs.Posts.{writes, offered_place, cdc_posts, sent_posts, connection_posts}
-use Rattle.pipe_model.specs.Lawful.{asked, draft}
+use Rattle.pipe_model.specs.Posts.{writes, offered_place, sent_posts, connection_posts}
+use Rattle.pipe_model.specs.Lawful.{draft}
 use Rattle.world_core.specs.Played.{IsOneLink, IsBuilt, IsMade, IsPlayed}
-use Rattle.world_core.specs.OneLink.{the_link, llc_of, llc_in, llc_waiting, posted_llc}
+use Rattle.world_core.specs.OneLink.{the_link, llc_of, llc_in, posted_llc}
 use Rattle.world_core.specs.Wired.{EachItem}
 use Rattle.world_core.specs.WireSteps.{EachPost, IsCdcOn, leaving}
 use Rattle.world_core.specs.Agreement.{HasOffers, PostsOne, PostsFew, GivesItems}
