@@ -57,6 +57,7 @@ pub mod LinkMoves
 pub mod LinkRoom
 pub mod Lists
 pub mod Moved
+pub mod MovedWires
 pub mod Moves
 pub mod NeverOver
 pub mod NewManagers
@@ -80,6 +81,7 @@ pub mod PlainPosts
 pub mod PlainWires
 pub mod PlayedWorlds
 pub mod Quiet
+pub mod PostedClc
 pub mod PostsFrom
 pub mod QuietEntries
 pub mod QuietEvents
