@@ -1,5 +1,5 @@
 -- A CLC message that is posted with an entry is the one that waits to be taken after it, on a known socket of the side that acts.
-use Rattle.std.proofs.Common.{◌≡◌, ◌∙◌, ◌==◌, ℕ, ◌+◌, ◌<◌, ◌≤◌, Bool, true, false, if◌then◌else◌, List, [], ◌∷◌, ◌++◌, length, drop, filter_map, refl, ap, sym, subst, ◌&&◌, arith, append_assoc, length-append, eq-eqb}
+use Rattle.std.proofs.Common.{◌≡◌, ◌∙◌, ◌==◌, ℕ, ◌+◌, ◌<◌, ◌≤◌, true, if◌then◌else◌, List, [], ◌∷◌, ◌++◌, length, drop, filter_map, refl, ap, sym, subst, ◌&&◌, arith, append_assoc, length-append, eq-eqb}
 use Rattle.std.specs.Prelude.{Option, Some, None}
 use Rattle.std.specs.List.{cons_option}
 use Rattle.smc_num.specs.declared.Side.{Side}
@@ -17,7 +17,7 @@ use Rattle.world_core.specs.Sockets.{Socket, Proposed, Refused, FirstAccepted, F
 use Rattle.world_core.specs.WireSteps.{EachPost}
 use Rattle.world_core.specs.Sending.{acting_side}
 use Rattle.world_core.proofs.PlayedWorlds.{played}
-use Rattle.world_core.proofs.PostsFrom.{IsSentBy, ArePosts, posts-from}
+use Rattle.world_core.proofs.PostsFrom.{IsSentBy, posts-from}
 
 -- that a CLC message is on a known socket, and waits first there
 abbrev pub IsPosted : ℕ → Side → List Entry → Post → Type 0
