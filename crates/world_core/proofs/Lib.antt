@@ -3,13 +3,16 @@ pub mod AcceptManagers
 pub mod ActedEnds
 pub mod Agreed
 pub mod Agreement
+pub mod Aimers
 pub mod AllLendings
+pub mod AskedFrom
 pub mod AskedPosts
 pub mod Batched
 pub mod Batches
 pub mod BoundKeys
 pub mod CallEntries
 pub mod Carried
+pub mod CarriedPosts
 pub mod Carrying
 pub mod ClcMoves
 pub mod ClcTaken
@@ -50,6 +53,7 @@ pub mod KeyedEnds
 pub mod KnownEntries
 pub mod Landed
 pub mod Landings
+pub mod LastSent
 pub mod LastingLendings
 pub mod LaterConfirms
 pub mod LaterManagers
@@ -65,6 +69,7 @@ pub mod LinkRoom
 pub mod LinkTold
 pub mod Lists
 pub mod Moved
+pub mod MovedWires
 pub mod Moves
 pub mod NeverOver
 pub mod NewManagers
@@ -79,6 +84,7 @@ pub mod OpenManagers
 pub mod Openings
 pub mod OpeningsAfter
 pub mod Own
+pub mod OwnWires
 pub mod Parts
 pub mod PipePosts
 pub mod PipeSteps
@@ -87,6 +93,8 @@ pub mod Places
 pub mod PlainPosts
 pub mod PlainWires
 pub mod PlayedWorlds
+pub mod PostedClc
+pub mod PostsFrom
 pub mod Quiet
 pub mod QuietEntries
 pub mod QuietEvents
@@ -127,3 +135,4 @@ pub mod Ways
 pub mod WireEntries
 pub mod WireKept
 pub mod WireMoves
+pub mod WiresAfter
