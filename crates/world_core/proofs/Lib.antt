@@ -10,7 +10,9 @@ pub mod BoundKeys
 pub mod CallEntries
 pub mod Carried
 pub mod Carrying
+pub mod ClcLengths
 pub mod ClcMoves
+pub mod ClcPosts
 pub mod ConfirmEntries
 pub mod ConfirmManagers
 pub mod Confirmations
@@ -91,6 +93,7 @@ pub mod SentBatches
 pub mod Shaken
 pub mod SmallEnds
 pub mod Standing
+pub mod StreamFronts
 pub mod StandingLendings
 pub mod StartedRows
 pub mod StillEntries

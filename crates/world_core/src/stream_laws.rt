@@ -1,0 +1,36 @@
+//! What the TCP streams of a history of one link are, entry by entry. Each law is a function with
+//! nothing to do, whose contract is the law.
+
+ghost use Rattle.std.specs.Prelude.{◌≡◌, ℕ, true, false, List, [], ◌∷◌, filter_map, length, Some, drop};
+ghost use Rattle.smc_num.specs.declared.Side.{Side as Peer};
+ghost use Rattle.smc_num.specs.Names.{head, other};
+ghost use Rattle.pipe_model.specs.declared.setup.Setup.{Setup as Settings};
+ghost use Rattle.pipe_model.specs.declared.entry.Entry.{Entry as Line};
+ghost use Rattle.clc_wire.specs.declared.message.ClcMessage.{ClcMessage as Message};
+ghost use Rattle.clc_wire.specs.Clc.{clc_bytes, clc_length};
+ghost use Rattle.pipe_model.specs.Fallback.{clc_in, is_fallen, untaken};
+ghost use Rattle.world_core.specs.Played.{IsOneLink, IsPlayed};
+ghost use Rattle.world_core.specs.Streams.{may_post_clc};
+
+/// A call, a landing or a completion posts no CLC message.
+pub fn only_the_handshake_posts_clc()
+    ensures { (setup : Settings) → IsOneLink setup → (payload : List ℕ) (e : Line) (past : List Line) (n : ℕ)
+        → IsPlayed setup payload (e ∷ past) n → may_post_clc e.event ≡ false → (x : Peer) (s : ℕ) → filter_map (clc_in x s) e.posts ≡ [] }
+{}
+
+/// The CLC messages that wait to be taken have the lengths that are told of them.
+pub fn untaken_messages_are_as_long_as_told()
+    ensures { (setup : Settings) → IsOneLink setup → (payload : List ℕ) (past : List Line) (n : ℕ)
+        → IsPlayed setup payload past n → (x : Peer) (s : ℕ) (m : Message) → head (untaken x s past) ≡ Some m → length (clc_bytes m) ≡ clc_length m }
+{}
+
+/// The stream of an end that has not fallen back holds the CLC messages that wait, and nothing else; and
+/// one that has fallen back was heard out by its own side.
+pub fn a_stream_begins_with_what_waits()
+    ensures heard { (setup : Settings) → IsOneLink setup → (payload : List ℕ) (past : List Line) (n : ℕ)
+        → IsPlayed setup payload past n → (y : Peer) (s : ℕ) → is_fallen y s past ≡ true → untaken (other y) s past ≡ [] }
+    ensures few { (setup : Settings) → IsOneLink setup → (payload : List ℕ) (past : List Line) (n : ℕ)
+        → IsPlayed setup payload past n → (x : Peer) (s : ℕ) → drop 1 (untaken x s past) ≡ [] }
+    ensures stays { (setup : Settings) → IsOneLink setup → (payload : List ℕ) (e : Line) (past : List Line) (n : ℕ)
+        → IsPlayed setup payload (e ∷ past) n → (x : Peer) (s : ℕ) → is_fallen x s past ≡ true → is_fallen x s (e ∷ past) ≡ true }
+{}
