@@ -1,6 +1,6 @@
 -- What stands in the streams of a played history: the CLC messages that wait, and behind them the bytes of an end that has fallen back.
 use Rattle.std.proofs.Common.{◌≡◌, ◌∙◌, ap, sym, subst, refl, arith, length-append, append_assoc, append-nil, length-drop, eqb-true, eq-eqb, true≢false}
-use Rattle.std.proofs.lemmas.List.{length-take, length-take-le, take-take, take_min, drop_all}
+use Rattle.std.proofs.lemmas.List.{length-take, length-take-le, take-take, take_min, drop_all, nil_from_length}
 use Rattle.std.proofs.Math.Seq.{drop-append_seam, take-nil}
 use Rattle.std.proofs.Math.Nat.{min-le_left, min-le_right, min_comm}
 use Rattle.std.specs.Prelude.{Bool, List, Option, Some, None, [], false, true, filter_map, flat_map, if◌then◌else◌, length, take, drop, min, ℕ, ◌+◌, ◌-◌, ◌==◌, ◌&&◌, ◌||◌, not, slice_index_or, ◌++◌, ◌≤◌, ◌<◌, ◌∷◌, is_some}
@@ -19,7 +19,9 @@ use Rattle.pipe_model.specs.declared.event.Event.{Event}
 use Rattle.pipe_model.specs.declared.event.Event.TheVariants.{Open as OpenEvent, Write, Read, Clc, Deliver, Complete}
 use Rattle.pipe_model.specs.declared.setup.Setup.{Setup}
 use Rattle.pipe_model.specs.declared.entry.Entry.{Entry}
-use Rattle.pipe_model.specs.Closing.{Phase, Open, cause_of, struck, is_closing}
+use Rattle.pipe_model.specs.declared.closing.Phase.{Phase}
+use Rattle.pipe_model.specs.declared.closing.Phase.TheVariants.{Open}
+use Rattle.pipe_model.specs.Closing.{cause_of, struck, is_closing}
 use Rattle.pipe_model.specs.Calls.{Call, Told, Writes, Reads}
 use Rattle.pipe_model.specs.Connections.{EndState, NoEnd, WaitsProposal, WaitsAnswer, WaitsConfirm, WaitsLink, IsUp, HasFallen, WasReset, end_state, early_state, is_up, after_event, after_loss, after_clc, group_on}
 use Rattle.pipe_model.specs.Fabric.{loses_group_with}
@@ -30,7 +32,8 @@ use Rattle.world_core.specs.Played.{IsBuilt, IsMade, IsOneLink, IsPlayed}
 use Rattle.world_core.specs.Sockets.{Accepted, AcceptFallen, AcceptRefused, AwaitsLink, Confirmed, Fallen, FirstAccepted, FirstConfirmed, FirstUp, FirstUpAtA, HasSocket, HasWorld, IsWorld, Proposed, Refused, Socket, StandsAt, Unopened, Up, early_at, end_at, opened_at, untaken_at, up_at}
 use Rattle.world_core.specs.Sending.{acting_side}
 use Rattle.world_core.proofs.ClcLengths.{IsMeasured, measured-new, first-measured}
-use Rattle.world_core.proofs.ClcPosts.{IsAsked, News, NoNews, OneNews, both-true, news, puts, same-side}
+use Rattle.world_core.proofs.ClcPosts.{IsAsked, News, NoNews, OneNews, both-true, news, no-clc-posts, none-in, puts, same-side}
+use Rattle.world_core.specs.Streams.{may_post_clc}
 use Rattle.world_core.proofs.Openings.{early-apart}
 use Rattle.world_core.proofs.PlayedWorlds.{played}
 use Rattle.world_core.proofs.QuietEvents.{by-side, if-same}
@@ -188,8 +191,7 @@ complete-writes payload B s slot dir reply past = refl
 
 -- what a write on an end that has fallen back puts in, by its reply
 nil-of : (xs : List ℕ) → (length xs == 0) ≡ true → xs ≡ []
-nil-of [] e = refl
-nil-of (x ∷ xs) e = cc
+nil-of xs e = nil_from_length xs (eqb-true (length xs) 0 e)
 
 pub wrote-is : (payload : List ℕ) (at len room : ℕ) (reply : Reply) → reply ≡ fallen_write false room (length (take len (drop at payload))) Open
     → put-of reply (drop at payload) ≡ take room (take len (drop at payload))
@@ -240,6 +242,49 @@ module _ (setup : Setup) (one : IsOneLink setup) (payload : List ℕ) where
       let h = at-socket past n q s in
       let at = h.1 in
       ap (λ (ms : List ClcMessage). drop 1 ms) (at.messages x) ∙ few setup h.0 x
+
+  -- nobody has closed
+  phases-open : (past : List Entry) (n : ℕ) → IsPlayed setup payload past n → (x : Side) (s : ℕ) → own_phase x s past ≡ Open
+  phases-open [] n q x s = refl
+  phases-open (e ∷ past) n q x s = ap (λ phase. fallen_call x s e.event e.reply phase) (phases-open past q.0 q.3 x s) ∙ by_event e.event (built q.1)
+    where
+      built : IsMade setup payload past q.0 e → IsBuilt setup (length payload) e.event
+      built m = m.built
+
+      by_event : (event : Event) → IsBuilt setup (length payload) event → fallen_call x s event e.reply Open ≡ Open
+      by_event (OpenEvent t) b = refl
+      by_event (Clc t dir) b = refl
+      by_event (Write end at len) b = refl
+      by_event (Read end len) b = refl
+      by_event (Deliver slot dir) b = refl
+      by_event (Complete slot dir) b = refl
+      by_event event b = absurd b
+
+  -- the two queues of an end, as nobody has closed
+  abbrev pub open-queues : Side → ℕ → List Entry → Queues
+  open-queues x s past = record { phase = Open; peer_done = false; peer_closed = false; room = stream_room - length (stream payload x s past); held = stream payload (other x) s past }
+
+  module _ (past : List Entry) (n : ℕ) (q : IsPlayed setup payload past n) (x : Side) (s : ℕ) where
+    did-nothing : (f : Phase → Bool) → f Open ≡ false → peer_did f x s past ≡ false
+    did-nothing f e = ap (λ phase. is_fallen (other x) s past && f phase) (phases-open past n q (other x) s) ∙ (ap (λ b. is_fallen (other x) s past && b) e ∙ never (is_fallen (other x) s past))
+      where
+        never : (b : Bool) → (b && false) ≡ false
+        never true = refl
+        never false = refl
+
+    queues-open : queues payload x s past ≡ open-queues x s past
+    queues-open =
+        ap (λ b. record { phase = if b then struck PeerAbort (own_phase x s past) else own_phase x s past; peer_done = peer_did has_finished x s past; peer_closed = peer_did is_closing x s past; room = stream_room - length (stream payload x s past); held = stream payload (other x) s past }) (did-nothing (λ phase. is_some (cause_of phase)) refl)
+        ∙ (ap (λ phase. record { phase = phase; peer_done = peer_did has_finished x s past; peer_closed = peer_did is_closing x s past; room = stream_room - length (stream payload x s past); held = stream payload (other x) s past }) (phases-open past n q x s)
+        ∙ (ap (λ b. record { phase = Open; peer_done = b; peer_closed = peer_did is_closing x s past; room = stream_room - length (stream payload x s past); held = stream payload (other x) s past }) (did-nothing has_finished refl)
+        ∙ ap (λ b. record { phase = Open; peer_done = false; peer_closed = b; room = stream_room - length (stream payload x s past); held = stream payload (other x) s past }) (did-nothing is_closing refl)))
+
+  -- what a call on an end that has fallen back is told
+  pub fallen-call-told : (past : List Entry) (n : ℕ) → IsPlayed setup payload past n → (end : End) (call : Call) → is_fallen end.side end.s past ≡ true
+      → call_told setup payload end call past ≡ queue_told call (open-queues end.side end.s past)
+  fallen-call-told past n q end call f =
+      ap (λ state. end_told setup payload end call past state) (state-fallen (end_state end.side end.s past) f)
+      ∙ ap (λ (qs : Queues). fallen_told call qs (cause_of qs.phase)) (queues-open past n q end.side end.s)
 
   -- an end that has fallen back is opened, and stays so
   fallen-opened : (k : Socket) (x : Side) → is_fallen_state (end_at k x) ≡ true → opened_at k ≡ true
@@ -336,3 +381,112 @@ module _ (setup : Setup) (one : IsOneLink setup) (payload : List ℕ) where
         by : (b : Bool) → is_fallen x s past ≡ b → is_fallen x s past ≡ false
         by true g = absurd (true≢false (sym (fallen-stays x s g) ∙ f))
         by false g = g
+
+    -- what an entry does to the stream of a side on a socket: bytes of an application come in, or nothing does; a CLC message comes in;
+    -- the one that waits is taken; or bytes are read out of it
+    pub data Moving (x : Side) (s : ℕ) : Type 0 where
+      Grows : (bytes : List ℕ) → takes_clc x s e.event e.reply ≡ false → read_out x s e.event e.reply past ≡ 0 → filter_map (clc_in x s) e.posts ≡ [] → written payload x s e.event e.reply past ≡ bytes
+          → (is_fallen x s past ≡ false → bytes ≡ []) → length bytes ≤ stream_room - length (stream payload x s past) → Moving x s
+      Posts : (link : Option LinkId) (m : ClcMessage) → takes_clc x s e.event e.reply ≡ false → read_out x s e.event e.reply past ≡ 0 → filter_map (clc_in x s) e.posts ≡ m ∷ [] → written payload x s e.event e.reply past ≡ []
+          → IsAsked setup payload past x s link m → Moving x s
+      Takes : (m : ClcMessage) → takes_clc x s e.event e.reply ≡ true → read_out x s e.event e.reply past ≡ 0 → filter_map (clc_in x s) e.posts ≡ [] → written payload x s e.event e.reply past ≡ []
+          → untaken x s past ≡ m ∷ [] → Moving x s
+      Reads-out : (k : ℕ) → takes_clc x s e.event e.reply ≡ false → read_out x s e.event e.reply past ≡ k → filter_map (clc_in x s) e.posts ≡ [] → written payload x s e.event e.reply past ≡ []
+          → is_fallen (other x) s past ≡ true → Moving x s
+
+    by-news : (x : Side) (s : ℕ) → takes_clc x s e.event e.reply ≡ false → read_out x s e.event e.reply past ≡ 0 → written payload x s e.event e.reply past ≡ [] → Moving x s
+    by-news x s t r w = by (news setup payload e past (puts setup one payload e past n p) x s)
+      where
+        by : News setup payload e past x s → Moving x s
+        by (NoNews none) = Grows [] t r none w (λ f. refl) (omega arith)
+        by (OneNews link m is side a) = Posts link m t r is w a
+
+    -- a message that is taken is the one that waits
+    pub taken-waits : (t : ℕ) (dir : Side) → e.event ≡ Clc t dir → takes_message e.reply ≡ true → (m : ClcMessage) × (untaken dir t past ≡ m ∷ [])
+    taken-waits t dir is takes = by (untaken dir t past) refl (few-untaken past p.0 p.3 dir t)
+      where
+        idle : (b : Bool) → (if b then Idle else Idle) ≡ Idle
+        idle true = refl
+        idle false = refl
+
+        by : (ms : List ClcMessage) → untaken dir t past ≡ ms → drop 1 (untaken dir t past) ≡ [] → (m : ClcMessage) × (untaken dir t past ≡ m ∷ [])
+        by [] g f =
+            let nothing : front payload dir t past ≡ NoMessage =
+            ap (λ b. front_of b (stream payload dir t past) (untaken dir t past)) (never-raw past p.0 p.3 t) ∙ ap (λ ms. front_of false (stream payload dir t past) ms) g in
+            let told : e.reply ≡ Idle =
+            told-is (Clc t dir) is ∙ (ap (λ fr. if expects (end_state (other dir) t past) then front_told setup payload (other dir) t past fr else Idle) nothing ∙ idle (expects (end_state (other dir) t past))) in
+            absurd (true≢false (sym takes ∙ ap takes_message told))
+        by (m ∷ ms) g f = (m, g ∙ ap (λ ks. m ∷ ks) (sym (ap (λ ks. drop 1 ks) g) ∙ f))
+
+    pub moving : (x : Side) (s : ℕ) → Moving x s
+    moving x s = by_event e.event refl
+      where
+        takes-as : (event : Event) → e.event ≡ event → takes_clc x s e.event e.reply ≡ takes_clc x s event e.reply
+        takes-as event is = ap (λ v. takes_clc x s v e.reply) is
+
+        reads-as : (event : Event) → e.event ≡ event → read_out x s e.event e.reply past ≡ read_out x s event e.reply past
+        reads-as event is = ap (λ v. read_out x s v e.reply past) is
+
+        writes-as : (event : Event) → e.event ≡ event → written payload x s e.event e.reply past ≡ written payload x s event e.reply past
+        writes-as event is = ap (λ v. written payload x s v e.reply past) is
+
+        none-posted : (event : Event) → e.event ≡ event → may_post_clc event ≡ false → filter_map (clc_in x s) e.posts ≡ []
+        none-posted event is none = none-in x s e.posts (no-clc-posts setup one payload e past n p (ap may_post_clc is ∙ none))
+
+        by_clc : (t : ℕ) (dir : Side) → e.event ≡ Clc t dir → (b : Bool) → takes_clc x s (Clc t dir) e.reply ≡ b → Moving x s
+        by_clc t dir is false g = by-news x s (takes-as (Clc t dir) is ∙ g) (reads-as (Clc t dir) is) (writes-as (Clc t dir) is ∙ clc-writes payload x s t dir e.reply past)
+        by_clc t dir is true g =
+            let both = both-true (s == t) (same_side x dir && takes_message e.reply) g in
+            let rest = both-true (same_side x dir) (takes_message e.reply) both.1 in
+            let side : x ≡ dir = same-side x dir rest.0 in
+            let socket : s ≡ t = eqb-true s t both.0 in
+            let w = taken-waits t dir is rest.1 in
+            let there : untaken x s past ≡ w.0 ∷ [] = ap (λ y. untaken y s past) side ∙ (ap (λ r. untaken dir r past) socket ∙ w.1) in
+            by_news w.0 there side (news setup payload e past (puts setup one payload e past n p) x s)
+          where
+            by_news : (m : ClcMessage) → untaken x s past ≡ m ∷ [] → x ≡ dir → News setup payload e past x s → Moving x s
+            by_news m there side (NoNews none) = Takes m (takes-as (Clc t dir) is ∙ g) (reads-as (Clc t dir) is) none (writes-as (Clc t dir) is ∙ clc-writes payload x s t dir e.reply past) there
+            by_news m there side (OneNews link k posted acts a) = absurd (not-other x (acts ∙ (ap acting_side is ∙ ap other (sym side))))
+
+        by_read : (end : End) (len : ℕ) → e.event ≡ Read end len → (b : Bool) → (same_side (other x) end.side && ((s == end.s) && is_fallen (other x) s past)) ≡ b → Moving x s
+        by_read end len is false g =
+            Grows [] (takes-as (Read end len) is) (reads-as (Read end len) is ∙ (read-by x s end len e.reply past ∙ ap (λ b. if b then taken-of e.reply else 0) g)) (none-posted (Read end len) is refl)
+            (writes-as (Read end len) is ∙ read-writes payload x s end len e.reply past) (λ f. refl) (omega arith)
+        by_read end len is true g =
+            let both = both-true (same_side (other x) end.side) ((s == end.s) && is_fallen (other x) s past) g in
+            let rest = both-true (s == end.s) (is_fallen (other x) s past) both.1 in
+            Reads-out (taken-of e.reply) (takes-as (Read end len) is) (reads-as (Read end len) is ∙ (read-by x s end len e.reply past ∙ ap (λ b. if b then taken-of e.reply else 0) g)) (none-posted (Read end len) is refl)
+            (writes-as (Read end len) is ∙ read-writes payload x s end len e.reply past) rest.1
+
+        by_write : (end : End) (at len : ℕ) → e.event ≡ Write end at len → (b : Bool) → (same_side x end.side && ((s == end.s) && is_fallen x s past)) ≡ b → Moving x s
+        by_write end at len is false g =
+            Grows [] (takes-as (Write end at len) is) (reads-as (Write end at len) is) (none-posted (Write end at len) is refl)
+            (writes-as (Write end at len) is ∙ (written-by payload x s end at len e.reply past ∙ ap (λ b. if b then put-of e.reply (drop at payload) else []) g)) (λ f. refl) (omega arith)
+        by_write end at len is true g =
+            let both = both-true (same_side x end.side) ((s == end.s) && is_fallen x s past) g in
+            let rest = both-true (s == end.s) (is_fallen x s past) both.1 in
+            let bytes : List ℕ = take (stream_room - length (stream payload x s past)) (take len (drop at payload)) in
+            let long = length-take (stream_room - length (stream payload x s past)) (take len (drop at payload)) in
+            let low = min-le_left (stream_room - length (stream payload x s past)) (length (take len (drop at payload))) in
+            Grows bytes (takes-as (Write end at len) is) (reads-as (Write end at len) is) (none-posted (Write end at len) is refl)
+            (writes-as (Write end at len) is ∙ (written-by payload x s end at len e.reply past ∙ (ap (λ b. if b then put-of e.reply (drop at payload) else []) g ∙ put end at len is (same-side x end.side both.0) (eqb-true s end.s rest.0) rest.1)))
+            (λ f. absurd (true≢false (sym rest.1 ∙ f))) (omega (arith, long, low))
+          where
+            put : (end : End) (at len : ℕ) → e.event ≡ Write end at len → x ≡ end.side → s ≡ end.s → is_fallen x s past ≡ true
+                → put-of e.reply (drop at payload) ≡ take (stream_room - length (stream payload x s past)) (take len (drop at payload))
+            put end at len is side socket f =
+                let room : stream_room - length (stream payload end.side end.s past) ≡ stream_room - length (stream payload x s past) =
+                ap (λ y. stream_room - length (stream payload y end.s past)) (sym side) ∙ ap (λ r. stream_room - length (stream payload x r past)) (sym socket) in
+                let fallen : is_fallen end.side end.s past ≡ true = ap (λ y. is_fallen y end.s past) (sym side) ∙ (ap (λ r. is_fallen x r past) (sym socket) ∙ f) in
+                let told : e.reply ≡ fallen_write false (stream_room - length (stream payload end.side end.s past)) (length (take len (drop at payload))) Open =
+                told-is (Write end at len) is ∙ ap (λ t. reply_of p.0 t) (fallen-call-told past p.0 p.3 end (Writes (take len (drop at payload))) fallen) in
+                wrote-is payload at len (stream_room - length (stream payload end.side end.s past)) e.reply told ∙ ap (λ k. take k (take len (drop at payload))) room
+
+        by_event : (event : Event) → e.event ≡ event → Moving x s
+        by_event (OpenEvent t) is = by-news x s (takes-as (OpenEvent t) is) (reads-as (OpenEvent t) is) (writes-as (OpenEvent t) is ∙ open-writes payload x s t e.reply past)
+        by_event (Clc t dir) is = by_clc t dir is (takes_clc x s (Clc t dir) e.reply) refl
+        by_event (Read end len) is = by_read end len is (same_side (other x) end.side && ((s == end.s) && is_fallen (other x) s past)) refl
+        by_event (Write end at len) is = by_write end at len is (same_side x end.side && ((s == end.s) && is_fallen x s past)) refl
+        by_event (Deliver slot dir) is = by-news x s (takes-as (Deliver slot dir) is) (reads-as (Deliver slot dir) is) (writes-as (Deliver slot dir) is ∙ deliver-writes payload x s slot dir e.reply past)
+        by_event (Complete slot dir) is = by-news x s (takes-as (Complete slot dir) is) (reads-as (Complete slot dir) is) (writes-as (Complete slot dir) is ∙ complete-writes payload x s slot dir e.reply past)
+        by_event event is = absurd (subst (IsBuilt setup (length payload)) is made.built)
