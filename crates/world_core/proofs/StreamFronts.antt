@@ -244,7 +244,7 @@ module _ (setup : Setup) (one : IsOneLink setup) (payload : List ℕ) where
       ap (λ (ms : List ClcMessage). drop 1 ms) (at.messages x) ∙ few setup h.0 x
 
   -- nobody has closed
-  phases-open : (past : List Entry) (n : ℕ) → IsPlayed setup payload past n → (x : Side) (s : ℕ) → own_phase x s past ≡ Open
+  pub phases-open : (past : List Entry) (n : ℕ) → IsPlayed setup payload past n → (x : Side) (s : ℕ) → own_phase x s past ≡ Open
   phases-open [] n q x s = refl
   phases-open (e ∷ past) n q x s = ap (λ phase. fallen_call x s e.event e.reply phase) (phases-open past q.0 q.3 x s) ∙ by_event e.event (built q.1)
     where
@@ -375,7 +375,7 @@ module _ (setup : Setup) (one : IsOneLink setup) (payload : List ℕ) where
         ∙ (ap (λ state. after_loss lost (group_on s past) state) (event-keeps x s f) ∙ stays-lost lost (group_on s past)) in
         fallen-at (e ∷ past) h.0 s at x ∙ not-up h.0 x (sym (at.early x) ∙ now)
 
-    unfallen-before : (x : Side) (s : ℕ) → is_fallen x s (e ∷ past) ≡ false → is_fallen x s past ≡ false
+    pub unfallen-before : (x : Side) (s : ℕ) → is_fallen x s (e ∷ past) ≡ false → is_fallen x s past ≡ false
     unfallen-before x s f = by (is_fallen x s past) refl
       where
         by : (b : Bool) → is_fallen x s past ≡ b → is_fallen x s past ≡ false
@@ -490,3 +490,121 @@ module _ (setup : Setup) (one : IsOneLink setup) (payload : List ℕ) where
         by_event (Deliver slot dir) is = by-news x s (takes-as (Deliver slot dir) is) (reads-as (Deliver slot dir) is) (writes-as (Deliver slot dir) is ∙ deliver-writes payload x s slot dir e.reply past)
         by_event (Complete slot dir) is = by-news x s (takes-as (Complete slot dir) is) (reads-as (Complete slot dir) is) (writes-as (Complete slot dir) is ∙ complete-writes payload x s slot dir e.reply past)
         by_event event is = absurd (subst (IsBuilt setup (length payload)) is made.built)
+
+  -- a stream after an entry, by what leaves it and what comes in
+  abbrev pub flowed : Bool → ℕ → ℕ → List ClcMessage → List ℕ → List ℕ → List ℕ
+  flowed takes front reads posted wrote held = drop ((if takes then front else 0) + reads) held ++ (flat_map clc_bytes posted ++ wrote)
+
+  pub flowed-is : (x : Side) (s : ℕ) (e : Entry) (past : List Entry) (takes : Bool) (reads : ℕ) (posted : List ClcMessage) (wrote held : List ℕ)
+      → takes_clc x s e.event e.reply ≡ takes → read_out x s e.event e.reply past ≡ reads → filter_map (clc_in x s) e.posts ≡ posted → written payload x s e.event e.reply past ≡ wrote → stream payload x s past ≡ held
+      → stream payload x s (e ∷ past) ≡ flowed takes (front_length (front payload x s past)) reads posted wrote held
+  flowed-is x s e past takes reads posted wrote held t r m w h =
+      ap (λ b. flowed b (front_length (front payload x s past)) (read_out x s e.event e.reply past) (filter_map (clc_in x s) e.posts) (written payload x s e.event e.reply past) (stream payload x s past)) t
+      ∙ (ap (λ k. flowed takes (front_length (front payload x s past)) k (filter_map (clc_in x s) e.posts) (written payload x s e.event e.reply past) (stream payload x s past)) r
+      ∙ (ap (λ ms. flowed takes (front_length (front payload x s past)) reads ms (written payload x s e.event e.reply past) (stream payload x s past)) m
+      ∙ (ap (λ bs. flowed takes (front_length (front payload x s past)) reads posted bs (stream payload x s past)) w
+      ∙ ap (λ bs. flowed takes (front_length (front payload x s past)) reads posted wrote bs) h)))
+
+  -- the messages that wait after an entry
+  abbrev pub waits-then : Bool → List ClcMessage → List ClcMessage → List ClcMessage
+  waits-then takes posted waiting = drop (if takes then 1 else 0) waiting ++ posted
+
+  pub waits-is : (x : Side) (s : ℕ) (e : Entry) (past : List Entry) (takes : Bool) (posted waiting : List ClcMessage) → takes_clc x s e.event e.reply ≡ takes → filter_map (clc_in x s) e.posts ≡ posted → untaken x s past ≡ waiting
+      → untaken x s (e ∷ past) ≡ waits-then takes posted waiting
+  waits-is x s e past takes posted waiting t m u =
+      ap (λ b. waits-then b (filter_map (clc_in x s) e.posts) (untaken x s past)) t
+      ∙ (ap (λ ms. waits-then takes ms (untaken x s past)) m ∙ ap (λ ms. waits-then takes posted ms) u)
+
+  -- what a stream holds after a history
+  pub record IsFront (x : Side) (s : ℕ) (past : List Entry) : Type 0 where
+    pub more : List ℕ
+    pub parts : stream payload x s past ≡ flat_map clc_bytes (untaken x s past) ++ more
+    pub early : is_fallen x s past ≡ false → more ≡ []
+    pub fits : length (stream payload x s past) ≤ stream_room
+
+  -- the message at the front
+  pub front-whole : (past : List Entry) (n : ℕ) → IsPlayed setup payload past n → (x : Side) (s : ℕ) (m : ClcMessage) → untaken x s past ≡ m ∷ [] → front payload x s past ≡ Whole m (clc_length m)
+  front-whole past n q x s m u =
+      ap (λ b. front_of b (stream payload x s past) (untaken x s past)) (never-raw past n q s) ∙ ap (λ ms. front_of false (stream payload x s past) ms) u
+
+  plus-none : (k : ℕ) → k + 0 ≡ k
+  plus-none k = omega arith
+
+  pub zero-plus : (k : ℕ) → 0 + k ≡ k
+  zero-plus k = omega arith
+
+  fits-alone : (m : ClcMessage) → IsMeasured m → length ((clc_bytes m ++ []) ++ []) ≤ stream_room
+  fits-alone m i = let l = i.length_is in let most = i.most in
+      subst (λ (bs : List ℕ). length bs ≤ stream_room) (sym (append-nil (clc_bytes m ++ []) ∙ append-nil (clc_bytes m))) (omega (arith, l, most))
+
+  pub taken-rest : (m : ClcMessage) (more : List ℕ) → IsMeasured m → drop (clc_length m + 0) ((clc_bytes m ++ []) ++ more) ≡ more
+  taken-rest m more i =
+      let long : clc_length m + 0 ≡ length (clc_bytes m ++ []) = plus-none (clc_length m) ∙ (sym i.length_is ∙ ap (λ bs. length bs) (sym (append-nil (clc_bytes m)))) in
+      ap (λ k. drop k ((clc_bytes m ++ []) ++ more)) long ∙ drop-append_seam (clc_bytes m ++ []) more
+
+  pub fronts : (past : List Entry) (n : ℕ) → IsPlayed setup payload past n → (x : Side) (s : ℕ) → IsFront x s past
+  fronts [] n q x s = record { more = []; parts = refl; early = λ f. refl; fits = omega arith }
+  fronts (e ∷ past) n p x s = by (moving e past n p x s) (fronts past p.0 p.3 x s)
+    where
+      by : Moving e past n p x s → IsFront x s past → IsFront x s (e ∷ past)
+      by (Grows bytes t r m w early room) f =
+          let g : stream payload x s (e ∷ past) ≡ stream payload x s past ++ bytes = flowed-is x s e past false 0 [] bytes (stream payload x s past) t r m w refl in
+          let u : untaken x s (e ∷ past) ≡ untaken x s past = waits-is x s e past false [] (untaken x s past) t m refl ∙ append-nil (untaken x s past) in
+          let long = length-append (stream payload x s past) bytes in
+          let held = f.fits in
+          record {
+            more = f.more ++ bytes;
+            parts = g ∙ (ap (λ bs. bs ++ bytes) f.parts ∙ (append_assoc (flat_map clc_bytes (untaken x s past)) f.more bytes ∙ ap (λ ms. flat_map clc_bytes ms ++ (f.more ++ bytes)) (sym u)));
+            early = λ h. let before = unfallen-before e past n p x s h in ap (λ bs. bs ++ bytes) (f.early before) ∙ early before;
+            fits = subst (λ (bs : List ℕ). length bs ≤ stream_room) (sym g) (omega (arith, long, held, room));
+          }
+      by (Posts link m t r posted w a) f =
+          let empty : stream payload x s past ≡ [] = f.parts ∙ (ap (λ ms. flat_map clc_bytes ms ++ f.more) a.taken ∙ f.early a.unfallen) in
+          let g : stream payload x s (e ∷ past) ≡ (clc_bytes m ++ []) ++ [] = flowed-is x s e past false 0 (m ∷ []) [] [] t r posted w empty in
+          let u : untaken x s (e ∷ past) ≡ m ∷ [] = waits-is x s e past false (m ∷ []) [] t posted a.taken in
+          record {
+            more = [];
+            parts = g ∙ ap (λ ms. flat_map clc_bytes ms ++ []) (sym u);
+            early = λ h. refl;
+            fits = subst (λ (bs : List ℕ). length bs ≤ stream_room) (sym g) (fits-alone m (measured-new setup payload x past link m a.new));
+          }
+      by (Takes m t r posted w there) f =
+          let i = first-measured setup one payload past p.0 p.3 x s m (ap (λ ms. head ms) there) in
+          let held : stream payload x s past ≡ (clc_bytes m ++ []) ++ f.more = f.parts ∙ ap (λ ms. flat_map clc_bytes ms ++ f.more) there in
+          let g : stream payload x s (e ∷ past) ≡ f.more =
+          flowed-is x s e past true 0 [] [] ((clc_bytes m ++ []) ++ f.more) t r posted w held
+          ∙ (ap (λ fr. flowed true (front_length fr) 0 [] [] ((clc_bytes m ++ []) ++ f.more)) (front-whole past p.0 p.3 x s m there)
+          ∙ (append-nil (drop (clc_length m + 0) ((clc_bytes m ++ []) ++ f.more)) ∙ taken-rest m f.more i)) in
+          let u : untaken x s (e ∷ past) ≡ [] = waits-is x s e past true [] (m ∷ []) t posted there in
+          let long = ap (λ bs. length bs) held ∙ length-append (clc_bytes m ++ []) f.more in
+          let fit = f.fits in
+          record {
+            more = f.more;
+            parts = g ∙ ap (λ ms. flat_map clc_bytes ms ++ f.more) (sym u);
+            early = λ h. f.early (unfallen-before e past n p x s h);
+            fits = subst (λ (bs : List ℕ). length bs ≤ stream_room) (sym g) (omega (arith, long, fit));
+          }
+      by (Reads-out k t r posted w fallen) f =
+          let none : untaken x s past ≡ [] = ap (λ y. untaken y s past) (sym (other-other x)) ∙ fallen-heard-all past p.0 p.3 (other x) s fallen in
+          let g : stream payload x s (e ∷ past) ≡ drop k (stream payload x s past) = flowed-is x s e past false k [] [] (stream payload x s past) t r posted w refl ∙ (ap (λ j. drop j (stream payload x s past) ++ []) (zero-plus k) ∙ append-nil (drop k (stream payload x s past))) in
+          let u : untaken x s (e ∷ past) ≡ [] = waits-is x s e past false [] [] t posted none in
+          let long = length-drop k (stream payload x s past) in
+          let fit = f.fits in
+          record {
+            more = drop k (stream payload x s past);
+            parts = g ∙ ap (λ ms. flat_map clc_bytes ms ++ drop k (stream payload x s past)) (sym u);
+            early = λ h.
+                let empty : stream payload x s past ≡ [] = f.parts ∙ (ap (λ ms. flat_map clc_bytes ms ++ f.more) none ∙ f.early (unfallen-before e past n p x s h)) in
+                ap (λ bs. drop k bs) empty ∙ drop_all k [] (omega arith);
+            fits = subst (λ (bs : List ℕ). length bs ≤ stream_room) (sym g) (omega (arith, long, fit));
+          }
+
+  -- what others use of it
+  pub front-is-untaken : (past : List Entry) (n : ℕ) → IsPlayed setup payload past n → (x : Side) (s : ℕ) → is_fallen x s past ≡ false → stream payload x s past ≡ flat_map clc_bytes (untaken x s past)
+  front-is-untaken past n q x s f = let r = fronts past n q x s in r.parts ∙ (ap (λ bs. flat_map clc_bytes (untaken x s past) ++ bs) (r.early f) ∙ append-nil (flat_map clc_bytes (untaken x s past)))
+
+  pub stream-parts : (past : List Entry) (n : ℕ) → IsPlayed setup payload past n → (x : Side) (s : ℕ) → (more : List ℕ) × (stream payload x s past ≡ flat_map clc_bytes (untaken x s past) ++ more)
+  stream-parts past n q x s = let r = fronts past n q x s in (r.more, r.parts)
+
+  pub stream-fits : (past : List Entry) (n : ℕ) → IsPlayed setup payload past n → (x : Side) (s : ℕ) → length (stream payload x s past) ≤ stream_room
+  stream-fits past n q x s = let r = fronts past n q x s in r.fits

@@ -1,14 +1,14 @@
 //! What the TCP streams of a history of one link are, entry by entry. Each law is a function with
 //! nothing to do, whose contract is the law.
 
-ghost use Rattle.std.specs.Prelude.{◌≡◌, ℕ, true, false, List, [], ◌∷◌, filter_map, length, Some, drop};
+ghost use Rattle.std.specs.Prelude.{◌≡◌, ℕ, true, false, List, [], ◌∷◌, filter_map, length, Some, drop, flat_map, ◌++◌, ◌≤◌};
 ghost use Rattle.smc_num.specs.declared.Side.{Side as Peer};
 ghost use Rattle.smc_num.specs.Names.{head, other};
 ghost use Rattle.pipe_model.specs.declared.setup.Setup.{Setup as Settings};
 ghost use Rattle.pipe_model.specs.declared.entry.Entry.{Entry as Line};
 ghost use Rattle.clc_wire.specs.declared.message.ClcMessage.{ClcMessage as Message};
 ghost use Rattle.clc_wire.specs.Clc.{clc_bytes, clc_length};
-ghost use Rattle.pipe_model.specs.Fallback.{clc_in, is_fallen, untaken};
+ghost use Rattle.pipe_model.specs.Fallback.{clc_in, is_fallen, stream, stream_room, untaken};
 ghost use Rattle.world_core.specs.Played.{IsOneLink, IsPlayed};
 ghost use Rattle.world_core.specs.Streams.{may_post_clc};
 
@@ -27,6 +27,12 @@ pub fn untaken_messages_are_as_long_as_told()
 /// The stream of an end that has not fallen back holds the CLC messages that wait, and nothing else; and
 /// one that has fallen back was heard out by its own side.
 pub fn a_stream_begins_with_what_waits()
+    ensures alone { (setup : Settings) → IsOneLink setup → (payload : List ℕ) (past : List Line) (n : ℕ)
+        → IsPlayed setup payload past n → (x : Peer) (s : ℕ) → is_fallen x s past ≡ false → stream payload x s past ≡ flat_map clc_bytes (untaken x s past) }
+    ensures front { (setup : Settings) → IsOneLink setup → (payload : List ℕ) (past : List Line) (n : ℕ)
+        → IsPlayed setup payload past n → (x : Peer) (s : ℕ) → (more : List ℕ) × (stream payload x s past ≡ flat_map clc_bytes (untaken x s past) ++ more) }
+    ensures fits { (setup : Settings) → IsOneLink setup → (payload : List ℕ) (past : List Line) (n : ℕ)
+        → IsPlayed setup payload past n → (x : Peer) (s : ℕ) → length (stream payload x s past) ≤ stream_room }
     ensures heard { (setup : Settings) → IsOneLink setup → (payload : List ℕ) (past : List Line) (n : ℕ)
         → IsPlayed setup payload past n → (y : Peer) (s : ℕ) → is_fallen y s past ≡ true → untaken (other y) s past ≡ [] }
     ensures few { (setup : Settings) → IsOneLink setup → (payload : List ℕ) (past : List Line) (n : ℕ)
