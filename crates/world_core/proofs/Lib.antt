@@ -94,6 +94,7 @@ pub mod Shaken
 pub mod SmallEnds
 pub mod Standing
 pub mod StreamFronts
+pub mod StreamsAfter
 pub mod StandingLendings
 pub mod StartedRows
 pub mod StillEntries

@@ -148,11 +148,11 @@ stays-lost true group = refl
 stays-lost false group = refl
 
 -- what an application writes and takes out
-abbrev put-of : Reply → List ℕ → List ℕ
+abbrev pub put-of : Reply → List ℕ → List ℕ
 put-of (Wrote n) rest = take n rest
 put-of _ rest = []
 
-abbrev taken-of : Reply → ℕ
+abbrev pub taken-of : Reply → ℕ
 taken-of (Bytes from n) = n
 taken-of _ = 0
 
@@ -298,7 +298,7 @@ module _ (setup : Setup) (one : IsOneLink setup) (payload : List ℕ) where
     made : IsMade setup payload past p.0 e
     made = p.1
 
-    told-is : (event : Event) → e.event ≡ event → e.reply ≡ reply_of p.0 (told setup payload past event)
+    pub told-is : (event : Event) → e.event ≡ event → e.reply ≡ reply_of p.0 (told setup payload past event)
     told-is event is = made.reply ∙ ap (λ v. reply_of p.0 (told setup payload past v)) is
 
     -- what an event makes of it
@@ -527,7 +527,7 @@ module _ (setup : Setup) (one : IsOneLink setup) (payload : List ℕ) where
   front-whole past n q x s m u =
       ap (λ b. front_of b (stream payload x s past) (untaken x s past)) (never-raw past n q s) ∙ ap (λ ms. front_of false (stream payload x s past) ms) u
 
-  plus-none : (k : ℕ) → k + 0 ≡ k
+  pub plus-none : (k : ℕ) → k + 0 ≡ k
   plus-none k = omega arith
 
   pub zero-plus : (k : ℕ) → 0 + k ≡ k

@@ -1,15 +1,18 @@
 //! What the TCP streams of a history of one link are, entry by entry. Each law is a function with
 //! nothing to do, whose contract is the law.
 
-ghost use Rattle.std.specs.Prelude.{◌≡◌, ℕ, true, false, List, [], ◌∷◌, filter_map, length, Some, drop, flat_map, ◌++◌, ◌≤◌};
+ghost use Rattle.std.specs.Prelude.{◌≡◌, ℕ, true, false, List, [], ◌∷◌, filter_map, length, Some, drop, flat_map, ◌++◌, ◌≤◌, ◌<◌};
 ghost use Rattle.smc_num.specs.declared.Side.{Side as Peer};
 ghost use Rattle.smc_num.specs.Names.{head, other};
 ghost use Rattle.pipe_model.specs.declared.setup.Setup.{Setup as Settings};
 ghost use Rattle.pipe_model.specs.declared.entry.Entry.{Entry as Line};
 ghost use Rattle.clc_wire.specs.declared.message.ClcMessage.{ClcMessage as Message};
 ghost use Rattle.clc_wire.specs.Clc.{clc_bytes, clc_length};
-ghost use Rattle.pipe_model.specs.Fallback.{clc_in, is_fallen, stream, stream_room, untaken};
+ghost use Rattle.pipe_model.specs.Fallback.{clc_in, is_fallen, stream, stream_room, untaken, written};
 ghost use Rattle.world_core.specs.Played.{IsOneLink, IsPlayed};
+ghost use Rattle.world_core.specs.Hosts.{IsStreamAfter};
+ghost use Rattle.world_core.specs.Sending.{acting_side, outflow_at, puts_all};
+ghost use Rattle.world_core.specs.declared.host.Outflow.{Outflow as Stream};
 ghost use Rattle.world_core.specs.Streams.{may_post_clc};
 
 /// A call, a landing or a completion posts no CLC message.
@@ -39,4 +42,14 @@ pub fn a_stream_begins_with_what_waits()
         → IsPlayed setup payload past n → (x : Peer) (s : ℕ) → drop 1 (untaken x s past) ≡ [] }
     ensures stays { (setup : Settings) → IsOneLink setup → (payload : List ℕ) (e : Line) (past : List Line) (n : ℕ)
         → IsPlayed setup payload (e ∷ past) n → (x : Peer) (s : ℕ) → is_fallen x s past ≡ true → is_fallen x s (e ∷ past) ≡ true }
+{}
+
+/// The streams that a host keeps of its own side stand for the history with an entry as soon as the
+/// posts of the entry went into them, where its application writes nothing.
+pub fn own_streams_stand_with_the_posts()
+    ensures { (setup : Settings) → IsOneLink setup → (payload : List ℕ) (e : Line) (past : List Line) (n : ℕ)
+        → IsPlayed setup payload (e ∷ past) n → (flows : List Stream) → length flows ≡ setup.sockets
+        → ((s : ℕ) → s < setup.sockets → IsStreamAfter payload (acting_side e.event) s past (outflow_at s flows))
+        → ((s : ℕ) → written payload (acting_side e.event) s e.event e.reply past ≡ [])
+        → (s : ℕ) → s < setup.sockets → IsStreamAfter payload (acting_side e.event) s (e ∷ past) (outflow_at s (puts_all e.posts flows)) }
 {}
