@@ -109,12 +109,12 @@ pub record IsHostAfter (setup : Setup) (payload : List ℕ) (x : Side) (past : L
   pub flows : (s : ℕ) → s < setup.sockets → IsStreamAfter payload x s past (outflow_at s h.flows.items)
 
 -- the two hosts, that of a side and that of its peer, stand for a played history
-pub record AreHostsAfter (setup : Setup) (payload : List ℕ) (past : List Entry) (heard : ℕ) (x : Side) (own theirs : Host) : Type 0 where
+pub record AreHostsAfter (setup : Setup) (payload : List ℕ) (past : List Entry) (heard : ℕ) (x : Side) (mine peers : Host) : Type 0 where
   pub set : IsWorldSet setup payload
   pub few : length past ≤ 2 ^ 18
   pub played : IsPlayed setup payload past heard
-  pub own : IsHostAfter setup payload x past own
-  pub theirs : IsHostAfter setup payload (other x) past theirs
+  pub own : IsHostAfter setup payload x past mine
+  pub theirs : IsHostAfter setup payload (other x) past peers
 
 -- the entries that an event finds, the newest first
 abbrev pub past_of : Moment → List Entry
@@ -147,4 +147,4 @@ pub record IsWorldAfter (w : Seen) (a b : Host) (opened : List ℕ) (history_roo
   pub most_bytes : w.room.bytes ≤ 2 ^ 26
   pub entries_fit : w.room.entries ≤ history_room
   pub bytes_fit : w.room.bytes ≤ heard_room
-  pub opened_fit : w.setup.sockets ≤ opened_room
+  pub opened_fit : w.room.entries ≤ opened_room

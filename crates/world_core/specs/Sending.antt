@@ -1,6 +1,6 @@
 -- How the posts of an entry leave a host: CLC messages into the streams of their sockets, all others on the wire of the link.
 -- A reader learns here what a host keeps of them, and what leaves a wire or a stream with an event.
-use Rattle.std.specs.Prelude.{◌≡◌, ◌×◌, ◌<◌, ℕ, ◌+◌, Bool, true, false, if◌then◌else◌, List, [], ◌∷◌, ◌++◌, take, drop, length, filter, slice_index_or, slice_set, Option, Some, None, IsSome, option_map, unwrap_or}
+use Rattle.std.specs.Prelude.{◌≡◌, ◌<◌, ℕ, ◌+◌, Bool, true, false, if◌then◌else◌, List, [], ◌∷◌, ◌++◌, take, drop, length, filter, slice_index_or, slice_set, Option, Some, None, IsSome, option_map, unwrap_or}
 use Rattle.smc_num.specs.declared.Side.{Side}
 use Rattle.smc_num.specs.declared.Side.TheVariants.{A}
 use Rattle.smc_num.specs.Names.{same_side, other}

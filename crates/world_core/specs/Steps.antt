@@ -1,7 +1,7 @@
 -- What a world is seen as, and what each event does to it.
 -- A reader learns here that a step adds one entry with what the definitions give after the history before it, when it is refused,
 -- and which event is the next one that would do something.
-use Rattle.std.specs.Prelude.{◌≡◌, ℕ, ◌+◌, nat_le, nat_lt, Bool, true, false, if◌then◌else◌, List, [], ◌∷◌, ◌++◌, length, reverse, Option, Some, None, Result, Ok, Err}
+use Rattle.std.specs.Prelude.{◌≡◌, ℕ, ◌+◌, nat_le, nat_lt, Bool, true, false, if◌then◌else◌, List, [], ◌∷◌, ◌++◌, length, reverse, Option, Some, None, option_to_list, Result, Ok, Err}
 use Rattle.std.specs.List.{find, flat_map}
 use Rattle.smc_num.specs.declared.Side.TheVariants.{A, B}
 use Rattle.smc_num.specs.Names.{up_to}
@@ -88,15 +88,15 @@ does_something (Plain Idle) = false
 does_something (Plain (Held hold)) = false
 does_something _ = true
 
--- the socket that an entry opens, in a list with those before it
-abbrev pub with_opened : Event → Reply → List ℕ → List ℕ
-with_opened (Open s) Opened sockets = sockets ++ s ∷ []
-with_opened _ _ sockets = sockets
+-- the socket that an entry opens
+abbrev pub opened_socket : Event → Reply → Option ℕ
+opened_socket (Open s) Opened = Some s
+opened_socket _ _ = None
 
 -- the sockets in the order in which they were opened
 abbrev pub opening_order : List Entry → List ℕ
 opening_order [] = []
-opening_order (e ∷ older) = with_opened e.event e.reply (opening_order older)
+opening_order (e ∷ older) = opening_order older ++ option_to_list (opened_socket e.event e.reply)
 
 -- what may move on the link of a slot, and on a socket
 abbrev pub slot_events : ℕ → List Event

@@ -26,7 +26,7 @@ pub fn write(
     requires socket { end.s < moment.setup.now.sockets }
     requires within { at + len ≤ length moment.payload.now }
     requires none { posts.old.items ≡ [] }
-    ensures { IsPlayedBy moment (Write end at len) result posts.new.items end.side own.new theirs.now }
+    ensures { IsPlayedBy moment.entry (Write end at len) result posts.new.items end.side own.new theirs.now }
 {
     unreachable!()
 }
@@ -35,7 +35,7 @@ pub fn write(
 pub fn due_bytes(own: &Host, theirs: &Host, moment: Moment<'_>, end: End, len: u32) -> u32
     requires hosts { AreHosts moment end.side own.now theirs.now }
     requires socket { end.s < moment.setup.now.sockets }
-    ensures { result ≡ handed (told_at moment (Read end len)) }
+    ensures { result ≡ handed (told_at moment.entry (Read end len)) }
 {
     unreachable!()
 }
@@ -58,8 +58,8 @@ pub fn read(
     requires room { vec_len heard.old + handed (told_at moment (Read end len)) ≤ vec_capacity heard.old }
     requires least { vec_capacity heard.old < 2 ^ 32 }
     requires none { posts.old.items ≡ [] }
-    ensures played { IsPlayedBy moment (Read end len) result posts.new.items end.side own.new theirs.new }
-    ensures heard { heard.new.items ≡ heard.old.items ++ told_bytes (told_at moment (Read end len)) }
+    ensures played { IsPlayedBy moment.entry (Read end len) result posts.new.items end.side own.new theirs.new }
+    ensures heard { heard.new.items ≡ heard.old.items ++ told_bytes (told_at moment.entry (Read end len)) }
     ensures capacity { vec_capacity heard.old ≤ vec_capacity heard.new }
 {
     unreachable!()

@@ -23,7 +23,7 @@ pub fn open(
     requires few { length moment.history.now < 2 ^ 18 }
     requires socket { s < moment.setup.now.sockets }
     requires none { posts.old.items ≡ [] }
-    ensures { IsPlayedBy moment (Open s) result posts.new.items A client.new server.new }
+    ensures { IsPlayedBy moment.entry (Open s) result posts.new.items A client.new server.new }
 {
     unreachable!()
 }
@@ -33,7 +33,7 @@ pub fn open(
 pub fn would_take(own: &Host, theirs: &Host, moment: Moment<'_>, s: u32, dir: Side) -> bool
     requires hosts { AreHosts moment (other dir) own.now theirs.now }
     requires socket { s < moment.setup.now.sockets }
-    ensures { result ≡ does_something (told_at moment (Clc s dir)) }
+    ensures { result ≡ does_something (told_at moment.entry (Clc s dir)) }
 {
     unreachable!()
 }
@@ -51,7 +51,7 @@ pub fn take(
     requires few { length moment.history.now < 2 ^ 18 }
     requires socket { s < moment.setup.now.sockets }
     requires none { posts.old.items ≡ [] }
-    ensures { IsPlayedBy moment (Clc s dir) result posts.new.items (other dir) own.new theirs.new }
+    ensures { IsPlayedBy moment.entry (Clc s dir) result posts.new.items (other dir) own.new theirs.new }
 {
     unreachable!()
 }

@@ -12,7 +12,7 @@ use pipe_model::{Post, Reply, Side};
 /// Whether a post of a side would land.
 pub fn can_land(own: &Host, theirs: &Host, moment: Moment<'_>, dir: Side) -> bool
     requires hosts { AreHosts moment dir own.now theirs.now }
-    ensures { result ≡ does_something (told_at moment (Deliver 1 dir)) }
+    ensures { result ≡ does_something (told_at moment.entry (Deliver 1 dir)) }
 {
     unreachable!()
 }
@@ -20,7 +20,7 @@ pub fn can_land(own: &Host, theirs: &Host, moment: Moment<'_>, dir: Side) -> boo
 /// Whether a post of a side would complete.
 pub fn can_complete(own: &Host, theirs: &Host, moment: Moment<'_>, dir: Side) -> bool
     requires hosts { AreHosts moment dir own.now theirs.now }
-    ensures { result ≡ does_something (told_at moment (Complete 1 dir)) }
+    ensures { result ≡ does_something (told_at moment.entry (Complete 1 dir)) }
 {
     unreachable!()
 }
@@ -37,7 +37,7 @@ pub fn deliver(
     requires hosts { AreHosts moment dir own.old theirs.old }
     requires few { length moment.history.now < 2 ^ 18 }
     requires none { posts.old.items ≡ [] }
-    ensures { IsPlayedBy moment (Deliver 1 dir) result posts.new.items dir own.new theirs.new }
+    ensures { IsPlayedBy moment.entry (Deliver 1 dir) result posts.new.items dir own.new theirs.new }
 {
     unreachable!()
 }
@@ -53,7 +53,7 @@ pub fn complete(
     requires hosts { AreHosts moment dir own.old theirs.now }
     requires few { length moment.history.now < 2 ^ 18 }
     requires none { posts.old.items ≡ [] }
-    ensures { IsPlayedBy moment (Complete 1 dir) result posts.new.items dir own.new theirs.now }
+    ensures { IsPlayedBy moment.entry (Complete 1 dir) result posts.new.items dir own.new theirs.now }
 {
     unreachable!()
 }

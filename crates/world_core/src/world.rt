@@ -1,16 +1,33 @@
 //! The world: what was set, what has happened, what was handed out, and the two hosts.
-ghost use Rattle.std.specs.Prelude.{◌≡◌, ◌↔◌, ◌≤◌, ◌<◌, ◌^◌, length, IfOk, IsTrue};
+ghost use Rattle.std.specs.Prelude.{◌≡◌, ◌↔◌, ◌≤◌, ◌<◌, ◌+◌, ◌^◌, ◌++◌, ◌∷◌, [], ℕ, length, vec_len, vec_capacity, IfOk, IsTrue, None, Some, Err};
+ghost use Rattle.std.specs.List.{find, flat_map};
+ghost use Rattle.smc_num.specs.declared.Side.TheVariants.{A};
 ghost use Rattle.pipe_model.specs.Fits.{Fits};
-ghost use Rattle.world_core.specs.Steps.{fresh_world, step_answer, after_step, next_event, pump_answer, after_pump};
+ghost use Rattle.world_core.specs.Played.{handed};
+ghost use Rattle.world_core.specs.Heard.{told_bytes};
+ghost use Rattle.world_core.specs.Settings.{bad_field as first_bad};
+ghost use Rattle.world_core.specs.Steps.{fresh_world, refusal, reply_to, stepped, step_answer, after_step, does_something, slot_events, socket_events, next_event, opened_socket, opening_order, past, pump_answer, after_pump, told_by};
+ghost use Rattle.world_core.specs.Hosts.{AreHosts, IsPlayedBy, told_at};
+ghost use Rattle.world_core.specs.declared.settings.BadField.{BadField as Bad};
+ghost use Rattle.world_core.specs.declared.world.NewFault.TheVariants.{BadSetup};
 
+use crate::calls::{due_bytes, read, write};
+use crate::handshake::{open, take, would_take};
 use crate::host::Host;
-use pipe_model::{Entry, Event, Reply, Room, Setup, StepFault};
+use crate::link::{can_complete, can_land, complete, deliver};
+use crate::moment::Moment;
+use crate::settings::{BadField, Field, bad_field};
+use arrayvec::ArrayVec;
+use pipe_model::{Entry, Event, Post, Posts, Reply, Room, Setup, Side, StepFault};
+use smc_num::NoMemory;
 use std::alloc::Global;
 use std::marker::Model;
 
 /// Why no world was made.
 #[derive(Clone, Copy, Debug, PartialEq, Eq)]
 pub enum NewFault {
+    /// A field of the setup or of the room is outside its range: the first one, with its value.
+    BadSetup { field: Field, value: u64 },
     /// Memory was asked for and there was none.
     NoMemory,
 }
@@ -25,7 +42,7 @@ pub struct World {
     heard: Vec<u8>,
     a: Host,
     b: Host,
-    // The sockets in the order in which they were opened.
+    // The sockets in the order in which they were opened; an entry opens one at most.
     opened: Vec<u32>,
 }
 
@@ -41,11 +58,323 @@ impl Model for World {
     ghost invariant = { λ w. IsWorldAfter (record { setup = w.setup; payload = w.payload.items; room = w.room; history = w.history.items; heard = w.heard.items }) w.a w.b w.opened.items (vec_capacity w.history) (vec_capacity w.heard) (vec_capacity w.opened) };
 }
 
+/// Appends within the capacity.
+fn push_within<T: Drop>(list: &mut Vec<T>, item: T)
+    requires { vec_len list.old < vec_capacity list.old }
+    ensures items { list.new.items ≡ list.old.items ++ item ∷ [] }
+    ensures capacity { vec_capacity list.old ≤ vec_capacity list.new }
+{
+    let _ = list.push(item);
+}
+
+/// Room for so many.
+fn with_room<T: Drop>(alloc: Global, room: u32) -> Result<Vec<T>, NoMemory>
+    ensures { IfOk result (λ list. (list.items ≡ []) × (room ≤ vec_capacity list)) }
+{
+    match Vec::with_capacity(alloc, room as usize) {
+        Ok(list) => Ok(list),
+        Err(_) => Err(NoMemory),
+    }
+}
+
+/// An event on the hosts of A and B.
+fn act(
+    a: &mut Host,
+    b: &mut Host,
+    moment: Moment<'_>,
+    event: Event,
+    heard: &mut Vec<u8>,
+    posts: &mut ArrayVec<Post, 6>,
+) -> Reply
+    requires hosts { AreHosts moment A a.old b.old }
+    requires few { length moment.history.now < 2 ^ 18 }
+    requires fits { Fits moment.setup.now (length moment.payload.now) event }
+    requires before { vec_len heard.old ≡ moment.heard }
+    requires room { vec_len heard.old + handed (told_at moment event) ≤ vec_capacity heard.old }
+    requires none { posts.old.items ≡ [] }
+    ensures played { IsPlayedBy moment.entry event result posts.new.items A a.new b.new }
+    ensures heard { heard.new.items ≡ heard.old.items ++ told_bytes (told_at moment.entry event) }
+    ensures capacity { vec_capacity heard.old ≤ vec_capacity heard.new }
+{
+    match event {
+        Event::Open(s) => open(a, b, moment, s, posts),
+        Event::Clc { s, dir } => match dir {
+            Side::A => take(b, a, moment, s, dir, posts),
+            Side::B => take(a, b, moment, s, dir, posts),
+        },
+        Event::Write { end, at, len } => match end.side {
+            Side::A => write(a, b, moment, end, at, len, posts),
+            Side::B => write(b, a, moment, end, at, len, posts),
+        },
+        Event::Read { end, len } => match end.side {
+            Side::A => read(a, b, moment, end, len, heard, posts),
+            Side::B => read(b, a, moment, end, len, heard, posts),
+        },
+        Event::Deliver { dir, .. } => match dir {
+            Side::A => deliver(a, b, moment, dir, posts),
+            Side::B => deliver(b, a, moment, dir, posts),
+        },
+        Event::Complete { dir, .. } => match dir {
+            Side::A => complete(a, b, moment, dir, posts),
+            Side::B => complete(b, a, moment, dir, posts),
+        },
+        _ => unreachable!(),
+    }
+}
+
+/// The socket that an entry opens, if it opens one.
+fn opened_by(event: Event, reply: Reply) -> Option<u32>
+    ensures { result ≡ opened_socket event reply }
+{
+    match (event, reply) {
+        (Event::Open(s), Reply::Opened) => Some(s),
+        _ => None,
+    }
+}
+
 impl World {
+    /// A world in which nothing has happened. It takes all its memory here. A field outside its range is
+    /// named, the first in the order of the setup's fields, A before B, then the room's.
+    pub fn new(
+        alloc: Global,
+        setup: &Setup,
+        payload: Vec<u8>,
+        room: Room,
+    ) -> Result<World, NewFault>
+        requires payload { length payload.items < 2 ^ 32 }
+        ensures made { IfOk result (λ world. world ≡ fresh_world setup.now payload.items room) }
+        ensures bad { (b : Bad) → (result ≡ Err (BadSetup b.field b.value)) ↔ (first_bad setup.now room ≡ Some b) }
+    {
+        match bad_field(setup, room) {
+            Some(BadField { field, value }) => Err(NewFault::BadSetup { field, value }),
+            None => World::made(alloc, setup, payload, room).map_err(|_| NewFault::NoMemory),
+        }
+    }
+
+    /// A world of these settings, each of which is in its range.
+    fn made(
+        alloc: Global,
+        setup: &Setup,
+        payload: Vec<u8>,
+        room: Room,
+    ) -> Result<World, NoMemory>
+        requires good { first_bad setup.now room ≡ None }
+        requires payload { length payload.items < 2 ^ 32 }
+        ensures { IfOk result (λ world. world ≡ fresh_world setup.now payload.items room) }
+    {
+        Ok(World {
+            setup: *setup,
+            payload,
+            room,
+            history: with_room(alloc, room.entries)?,
+            heard: with_room(alloc, room.bytes)?,
+            a: Host::new(alloc, Side::A, setup)?,
+            b: Host::new(alloc, Side::B, setup)?,
+            opened: with_room(alloc, room.entries)?,
+        })
+    }
+
+    /// Whether an event is one that is built, and names a known socket, the one slot, and bytes of the
+    /// payload.
+    pub fn fits(&self, event: &Event) -> bool
+        ensures { IsTrue result ↔ Fits self.now.setup (length self.now.payload) event.now }
+    {
+        match *event {
+            Event::Open(s) | Event::Clc { s, .. } => s < self.setup.sockets,
+            Event::Write { end, at, len } => {
+                end.s < self.setup.sockets && at as u64 + len as u64 <= self.payload.len() as u64
+            }
+            Event::Read { end, .. } => end.s < self.setup.sockets,
+            Event::Deliver { slot, .. } | Event::Complete { slot, .. } => slot == 1,
+            _ => false,
+        }
+    }
+
+    /// What the next event finds.
+    fn moment(&self) -> Moment<'_>
+        ensures setup { result.setup.now ≡ self.now.setup }
+        ensures payload { result.payload.now ≡ self.now.payload }
+        ensures history { result.history.now ≡ self.now.history }
+        ensures heard { result.heard ≡ length self.now.heard }
+    {
+        Moment {
+            setup: &self.setup,
+            payload: &self.payload,
+            history: &self.history,
+            heard: self.heard.len() as u32,
+        }
+    }
+
+    /// How many bytes an event would hand out.
+    fn due(&self, event: Event) -> u32
+        requires fits { Fits self.now.setup (length self.now.payload) event }
+        ensures { result ≡ handed (told_by self.now event) }
+    {
+        match event {
+            Event::Read { end, len } => match end.side {
+                Side::A => due_bytes(&self.a, &self.b, self.moment(), end, len),
+                Side::B => due_bytes(&self.b, &self.a, self.moment(), end, len),
+            },
+            _ => 0,
+        }
+    }
+
+    /// Why an event would be refused now, if it would.
+    fn refusal(&self, event: Event) -> Option<StepFault>
+        requires fits { Fits self.now.setup (length self.now.payload) event }
+        ensures { result ≡ refusal self.now event }
+    {
+        if self.history.len() as u64 >= self.room.entries as u64 {
+            return Some(StepFault::Spent {
+                entries: self.room.entries,
+            });
+        }
+        if self.heard.len() as u64 + self.due(event) as u64 > self.room.bytes as u64 {
+            return Some(StepFault::BytesSpent {
+                bytes: self.room.bytes,
+            });
+        }
+        None
+    }
+
+    /// One event of an actor: one entry more, whose reply and posts are what the definitions give after
+    /// the history before it. A step that the room has no place for is refused and changes nothing.
+    pub fn step(&mut self, actor: u32, event: Event) -> Result<Reply, StepFault>
+        requires fits { Fits self.old.setup (length self.old.payload) event }
+        ensures reply { result ≡ step_answer event self.old }
+        ensures world { self.new ≡ after_step actor event self.old }
+    {
+        match self.refusal(event) {
+            Some(fault) => Err(fault),
+            None => Ok(self.play(actor, event)),
+        }
+    }
+
+    /// One event for which there is room.
+    fn play(&mut self, actor: u32, event: Event) -> Reply
+        requires fits { Fits self.old.setup (length self.old.payload) event }
+        requires room { refusal self.old event ≡ None }
+        ensures reply { result ≡ reply_to self.old event }
+        ensures world { self.new ≡ stepped actor event self.old }
+    {
+        let mut posts = ArrayVec::new();
+        let moment = Moment {
+            setup: &self.setup,
+            payload: &self.payload,
+            history: &self.history,
+            heard: self.heard.len() as u32,
+        };
+        let reply = act(
+            &mut self.a,
+            &mut self.b,
+            moment,
+            event,
+            &mut self.heard,
+            &mut posts,
+        );
+        if let Some(s) = opened_by(event, reply) {
+            push_within(&mut self.opened, s);
+        }
+        push_within(
+            &mut self.history,
+            Entry {
+                actor,
+                event,
+                reply,
+                posts: Posts::of(posts),
+            },
+        );
+        reply
+    }
+
+    /// The first event, in the order of the link's posts and then of the sockets as they were opened, that
+    /// would do something.
+    pub fn next(&self) -> Option<Event>
+        ensures { result ≡ next_event self.now }
+    {
+        match self.next_on_link() {
+            Some(event) => Some(event),
+            None => self.next_on_sockets(),
+        }
+    }
+
+    /// The first landing or completion that would do something.
+    fn next_on_link(&self) -> Option<Event>
+        ensures { result ≡ find (λ event. does_something (told_by self.now event)) (slot_events 1) }
+    {
+        let moment = self.moment();
+        if can_land(&self.a, &self.b, moment, Side::A) {
+            return Some(Event::Deliver { slot: 1, dir: Side::A });
+        }
+        if can_land(&self.b, &self.a, moment, Side::B) {
+            return Some(Event::Deliver { slot: 1, dir: Side::B });
+        }
+        if can_complete(&self.a, &self.b, moment, Side::A) {
+            return Some(Event::Complete { slot: 1, dir: Side::A });
+        }
+        if can_complete(&self.b, &self.a, moment, Side::B) {
+            return Some(Event::Complete { slot: 1, dir: Side::B });
+        }
+        None
+    }
+
+    /// The first CLC message that would be taken.
+    fn next_on_sockets(&self) -> Option<Event>
+        ensures { result ≡ find (λ event. does_something (told_by self.now event)) (flat_map socket_events (opening_order (past self.now))) }
+    {
+        for s in &self.opened {
+            if let Some(event) = self.next_on(*s) {
+                return Some(event);
+            }
+        }
+        None
+    }
+
+    /// The first CLC message of a socket that would be taken.
+    fn next_on(&self, s: u32) -> Option<Event>
+        requires { s < self.now.setup.sockets }
+        ensures { result ≡ find (λ event. does_something (told_by self.now event)) (socket_events s) }
+    {
+        let moment = self.moment();
+        if would_take(&self.b, &self.a, moment, s, Side::A) {
+            return Some(Event::Clc { s, dir: Side::A });
+        }
+        if would_take(&self.a, &self.b, moment, s, Side::B) {
+            return Some(Event::Clc { s, dir: Side::B });
+        }
+        None
+    }
+
+    /// The step of [`World::next`], or nothing where that is none.
+    pub fn pump(&mut self, actor: u32) -> Result<Option<Reply>, StepFault>
+        ensures reply { result ≡ pump_answer self.old }
+        ensures world { self.new ≡ after_pump actor self.old }
+    {
+        match self.next() {
+            None => Ok(None),
+            Some(event) => Ok(Some(self.step(actor, event)?)),
+        }
+    }
+
     /// All entries, the oldest first.
     pub fn history(&self) -> &[Entry]
         ensures history { result.now ≡ self.now.history }
+        ensures few { length result.now ≤ 2 ^ 18 }
     {
         self.history.as_slice()
+    }
+
+    /// All bytes that reads handed out, in order.
+    pub fn heard(&self) -> &[u8]
+        ensures { result.now ≡ self.now.heard }
+    {
+        self.heard.as_slice()
+    }
+
+    /// The bytes that the scene's writes name.
+    pub fn payload(&self) -> &[u8]
+        ensures { result.now ≡ self.now.payload }
+    {
+        self.payload.as_slice()
     }
 }
