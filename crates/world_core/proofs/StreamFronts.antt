@@ -608,3 +608,42 @@ module _ (setup : Setup) (one : IsOneLink setup) (payload : List ℕ) where
 
   pub stream-fits : (past : List Entry) (n : ℕ) → IsPlayed setup payload past n → (x : Side) (s : ℕ) → length (stream payload x s past) ≤ stream_room
   stream-fits past n q x s = let r = fronts past n q x s in r.fits
+
+-- an end that has not fallen back writes into no stream and reads out of none, and a message that is not taken stays
+pub unfallen-writes : (payload : List ℕ) (s : ℕ) (end : End) (at len : ℕ) (reply : Reply) (past : List Entry) → is_fallen end.side end.s past ≡ false → written payload end.side s (Write end at len) reply past ≡ []
+unfallen-writes payload s end at len reply past f = written-by payload end.side s end at len reply past ∙ ap (λ b. if b then put-of reply (drop at payload) else []) (by (s == end.s) refl)
+  where
+    and-else : (b : Bool) → (b && false) ≡ false
+    and-else true = refl
+    and-else false = refl
+
+    by : (b : Bool) → (s == end.s) ≡ b → (same_side end.side end.side && ((s == end.s) && is_fallen end.side s past)) ≡ false
+    by false g = ap (λ b. same_side end.side end.side && (b && is_fallen end.side s past)) g ∙ and-else (same_side end.side end.side)
+    by true g =
+        ap (λ r. same_side end.side end.side && ((s == end.s) && is_fallen end.side r past)) (eqb-true s end.s g)
+        ∙ (ap (λ b. same_side end.side end.side && ((s == end.s) && b)) f ∙ (ap (λ b. same_side end.side end.side && b) (and-else (s == end.s)) ∙ and-else (same_side end.side end.side)))
+
+pub unfallen-reads : (x : Side) (s : ℕ) (end : End) (len : ℕ) (reply : Reply) (past : List Entry) → is_fallen end.side end.s past ≡ false → read_out x s (Read end len) reply past ≡ 0
+unfallen-reads x s end len reply past f = read-by x s end len reply past ∙ ap (λ b. if b then taken-of reply else 0) (by (same_side (other x) end.side) (s == end.s) refl refl)
+  where
+    by : (a b : Bool) → same_side (other x) end.side ≡ a → (s == end.s) ≡ b → (same_side (other x) end.side && ((s == end.s) && is_fallen (other x) s past)) ≡ false
+    by false b h g = ap (λ a. a && ((s == end.s) && is_fallen (other x) s past)) h
+    by true false h g = ap (λ a. a && ((s == end.s) && is_fallen (other x) s past)) h ∙ ap (λ b. b && is_fallen (other x) s past) g
+    by true true h g =
+        ap (λ a. a && ((s == end.s) && is_fallen (other x) s past)) h
+        ∙ (ap (λ b. b && is_fallen (other x) s past) g
+        ∙ (ap (λ y. is_fallen y s past) (same-side (other x) end.side h) ∙ (ap (λ r. is_fallen end.side r past) (eqb-true s end.s g) ∙ f)))
+
+-- nor does a read that is told of no bytes
+pub empty-reads : (x : Side) (s : ℕ) (end : End) (len : ℕ) (reply : Reply) (past : List Entry) → taken-of reply ≡ 0 → read_out x s (Read end len) reply past ≡ 0
+empty-reads x s end len reply past none =
+    let own : Bool = same_side (other x) end.side && ((s == end.s) && is_fallen (other x) s past) in
+    read-by x s end len reply past ∙ (ap (λ k. if own then k else 0) none ∙ if-same own 0)
+
+pub not-taken : (x : Side) (s t : ℕ) (dir : Side) (reply : Reply) → takes_message reply ≡ false → takes_clc x s (Clc t dir) reply ≡ false
+not-taken x s t dir reply none = ap (λ b. (s == t) && (same_side x dir && b)) none ∙ by (s == t) (same_side x dir)
+  where
+    by : (a b : Bool) → (a && (b && false)) ≡ false
+    by true true = refl
+    by true false = refl
+    by false b = refl

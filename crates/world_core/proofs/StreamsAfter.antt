@@ -63,6 +63,15 @@ no-offers-in x s (Clc y t link m ∷ posts) e = by (same_side x y && (s == t)) r
         ap (λ o. cons_option o (filter_map (offer_in x s) posts)) (no-offer-apart x s y t link m f)
         ∙ rest (sym (ap (λ b. cons_option (if b then Some m else None) (filter_map (clc_in x s) posts)) f) ∙ e)
 
+-- that a post, where it is a CLC message, is of a socket that there is
+abbrev pub IsOnSocket : Setup → Post → Type 0
+IsOnSocket setup (Clc from s link m) = s < setup.sockets
+IsOnSocket setup _ = Unit {0}
+
+-- an empty stream has room for a message
+whole-in : (held bytes : List ℕ) → held ≡ [] → length bytes ≤ stream_room → held ++ take (stream_room - length held) bytes ≡ bytes
+whole-in held bytes e fits = ap (λ bs. bs ++ take (stream_room - length bs) bytes) e ∙ take_all stream_room bytes fits
+
 -- one message that waits
 alone : (ms : List ClcMessage) (m : ClcMessage) → head ms ≡ Some m → drop 1 ms ≡ [] → ms ≡ m ∷ []
 alone [] m h d = cc
@@ -165,9 +174,7 @@ module _ (setup : Setup) (one : IsOneLink setup) (payload : List ℕ) where
         record {
           held =
               ap (λ (d : Direction). record d { held = d.held ++ take (free d) (clc_bytes m) }) f_is.held
-              ∙ (ap (λ bs. record { held = bs ++ take (stream_room - length bs) (clc_bytes m); ended = false; reset = false }) empty
-              ∙ (ap (λ bs. record { held = bs; ended = false; reset = false }) (take_all stream_room (clc_bytes m) (omega (arith, long, most)))
-              ∙ ap (λ bs. record { held = bs; ended = false; reset = false }) (sym g)));
+              ∙ ap (λ bs. record { held = bs; ended = false; reset = false }) (whole-in (stream payload x s past) (clc_bytes m) empty (omega (arith, long, most)) ∙ sym g);
           next = record {
             message = ap (λ ms. head ms) (sym u);
             link = a.about ∙ ap (λ q. option_map (λ v. v.link) q) o;
@@ -435,3 +442,18 @@ module _ (setup : Setup) (one : IsOneLink setup) (payload : List ℕ) where
         by false g =
             subst (λ (h : Outflow). IsStreamAfter payload x s (e ∷ past) h) (sym (at-other flows end.s s now g))
             (stays x s (outflow_at s flows) (takes-none s) (reads-at s false g) (their-posts x s acts) (their-writes x s acts) (are s low))
+
+    -- each CLC message that is posted is of a socket that there is
+    pub posts-on-sockets : EachPost (IsOnSocket setup) e.posts
+    posts-on-sockets = by (puts-of setup one payload e past n p)
+      where
+        none-is : (posts : List Post) → EachPost NoClc posts → EachPost (IsOnSocket setup) posts
+        none-is [] none = tt
+        none-is (WritePost from link key address len ∷ posts) none = (tt, none-is posts none.1)
+        none-is (Cdc from link m ∷ posts) none = (tt, none-is posts none.1)
+        none-is (Llc from link m ∷ posts) none = (tt, none-is posts none.1)
+        none-is (Clc from t link m ∷ posts) none = absurd none.0
+
+        by : Puts setup payload e past → EachPost (IsOnSocket setup) e.posts
+        by (PutsNone none) = none-is e.posts none
+        by (PutsOne t link m more is none a) = subst (λ (ps : List Post). EachPost (IsOnSocket setup) ps) (sym is) (a.socket, none-is more none)
