@@ -70,12 +70,12 @@ new-offer-measured setup payload B first link past kind = offer_length kind (new
 pub measured-new : (setup : Setup) (payload : List ℕ) (y : Side) (past : List Entry) (link : Option LinkId) (m : ClcMessage) → IsNew setup payload y past link m → IsMeasured m
 measured-new setup payload y past link (ProposalMessage p) is =
     record { length_is = ap (λ q. length (proposal_bytes q)) is ∙ proposal_length (proposal setup) refl refl refl; most = omega arith }
-measured-new setup payload y past None (AcceptMessage o) is = absurd is
+measured-new setup payload y past None (AcceptMessage o) is = absurd is.1
 measured-new setup payload y past (Some link) (AcceptMessage o) is =
-    record { length_is = ap (λ q. length (offer_bytes AcceptKind q)) is.1 ∙ new-offer-measured setup payload y is.0 link past AcceptKind; most = omega arith }
-measured-new setup payload y past None (ConfirmMessage o) is = absurd is
+    record { length_is = ap (λ q. length (offer_bytes AcceptKind q)) is.1.1 ∙ new-offer-measured setup payload y is.1.0 link past AcceptKind; most = omega arith }
+measured-new setup payload y past None (ConfirmMessage o) is = absurd is.1
 measured-new setup payload y past (Some link) (ConfirmMessage o) is =
-    record { length_is = ap (λ q. length (offer_bytes ConfirmKind q)) is.1 ∙ new-offer-measured setup payload y is.0 link past ConfirmKind; most = omega arith }
+    record { length_is = ap (λ q. length (offer_bytes ConfirmKind q)) is.1.1 ∙ new-offer-measured setup payload y is.1.0 link past ConfirmKind; most = omega arith }
 measured-new setup payload A past link (DeclineMessage r) is = record { length_is = ap (λ q. length (refusal_bytes q)) is.1 ∙ refusal_length (refusal A is.0) refl; most = omega arith }
 measured-new setup payload B past link (DeclineMessage r) is = record { length_is = ap (λ q. length (refusal_bytes q)) is.1 ∙ refusal_length (refusal B is.0) refl; most = omega arith }
 
@@ -103,7 +103,7 @@ untaken-measured setup one payload (e ∷ past) n p x s =
   where
     by : News setup payload e past x s → EachMessage IsMeasured (filter_map (clc_in x s) e.posts)
     by (NoNews is) = subst (λ (ms : List ClcMessage). EachMessage IsMeasured ms) (sym is) tt
-    by (OneNews link m is side a) = subst (λ (ms : List ClcMessage). EachMessage IsMeasured ms) (sym is) (measured-new setup payload x past link m a.new, tt)
+    by (OneNews link m is offers side a) = subst (λ (ms : List ClcMessage). EachMessage IsMeasured ms) (sym is) (measured-new setup payload x past link m a.new, tt)
 
 pub each-first : (P : ClcMessage → Type 0) (ms : List ClcMessage) (m : ClcMessage) → EachMessage P ms → head ms ≡ Some m → P m
 each-first P [] m a e = cc

@@ -56,15 +56,15 @@ NoClc (Clc from s link m) = ⊥
 NoClc _ = Unit {0}
 
 -- an offer is made for the link that its message is about
-abbrev IsOfLink : Setup → List ℕ → Side → List Entry → Option LinkId → Offer → Type 0
+abbrev pub IsOfLink : Setup → List ℕ → Side → List Entry → Option LinkId → Offer → Type 0
 IsOfLink setup payload y past None o = ⊥
 IsOfLink setup payload y past (Some link) o = (first : Bool) × (o ≡ new_offer setup payload y first link past)
 
 -- a message is one that a side makes after a history
 abbrev pub IsNew : Setup → List ℕ → Side → List Entry → Option LinkId → ClcMessage → Type 0
 IsNew setup payload y past link (ProposalMessage p) = p ≡ proposal setup
-IsNew setup payload y past link (AcceptMessage o) = IsOfLink setup payload y past link o
-IsNew setup payload y past link (ConfirmMessage o) = IsOfLink setup payload y past link o
+IsNew setup payload y past link (AcceptMessage o) = (y ≡ B) × IsOfLink setup payload y past link o
+IsNew setup payload y past link (ConfirmMessage o) = (y ≡ A) × IsOfLink setup payload y past link o
 IsNew setup payload y past link (DeclineMessage r) = (lack : Lack) × (r ≡ refusal y lack)
 
 -- what holds as a side posts a message on a socket
@@ -165,7 +165,7 @@ module _ (setup : Setup) (payload : List ℕ) (past : List Entry) (t : ℕ) (soc
     unfallen = w.unfallen;
     taken = w.taken;
     about = about-accept t link (new_offer setup payload B first link past) (offered B t past);
-    new = (first, refl);
+    new = (refl, (first, refl));
   })
 
   confirms : (first : Bool) (link : LinkId) → IsWaiting A → Asks setup payload past A (Clc A t (Some link) (ConfirmMessage (new_offer setup payload A first link past)) ∷ [])
@@ -174,7 +174,7 @@ module _ (setup : Setup) (payload : List ℕ) (past : List Entry) (t : ℕ) (soc
     unfallen = w.unfallen;
     taken = w.taken;
     about = about-confirm t link (new_offer setup payload A first link past) (offered A t past);
-    new = (first, refl);
+    new = (refl, (first, refl));
   })
 
   -- B takes a Proposal
@@ -386,7 +386,7 @@ no-clc-posts setup one payload e past n p none = by_event e.event refl
 -- what an entry posts for a side on a socket: nothing, or one message of the side that acts
 pub data News (setup : Setup) (payload : List ℕ) (e : Entry) (past : List Entry) (x : Side) (s : ℕ) : Type 0 where
   NoNews : filter_map (clc_in x s) e.posts ≡ [] → News setup payload e past x s
-  OneNews : (link : Option LinkId) (m : ClcMessage) → filter_map (clc_in x s) e.posts ≡ m ∷ [] → x ≡ acting_side e.event → IsAsked setup payload past x s link m → News setup payload e past x s
+  OneNews : (link : Option LinkId) (m : ClcMessage) → filter_map (clc_in x s) e.posts ≡ m ∷ [] → filter_map (offer_in x s) e.posts ≡ filter_map (offer_in x s) (Clc x s link m ∷ []) → x ≡ acting_side e.event → IsAsked setup payload past x s link m → News setup payload e past x s
 
 pub same-side : (x y : Side) → same_side x y ≡ true → x ≡ y
 same-side A A e = refl
@@ -418,6 +418,9 @@ news setup payload e past (PutsOne t link m more is none a) x s = by (same_side 
     by true f =
         let both = both-true (same_side x (acting_side e.event)) (s == t) f in
         let side : x ≡ acting_side e.event = same-side x (acting_side e.event) both.0 in
-        OneNews link m (found ∙ ap (λ b. if b then m ∷ [] else []) f) side
+        let socket : s ≡ t = eqb-true s t both.1 in
+        OneNews link m (found ∙ ap (λ b. if b then m ∷ [] else []) f)
+        (ap (λ (ps : List Post). filter_map (offer_in x s) ps) is ∙ (ap (λ (os : List Offered). cons_option (offer_in x s (Clc (acting_side e.event) t link m)) os) (none-offered x s more none)
+        ∙ (ap (λ y. filter_map (offer_in x s) (Clc y t link m ∷ [])) (sym side) ∙ ap (λ r. filter_map (offer_in x s) (Clc x r link m ∷ [])) (sym socket)))) side
         (subst (λ (y : Side). IsAsked setup payload past y s link m) (sym side) (subst (λ (r : ℕ). IsAsked setup payload past (acting_side e.event) r link m) (sym (eqb-true s t both.1)) a))
     by false f = NoNews (found ∙ ap (λ b. if b then m ∷ [] else []) f)

@@ -10,6 +10,7 @@ pub mod BoundKeys
 pub mod CallEntries
 pub mod Carried
 pub mod Carrying
+pub mod ClcFits
 pub mod ClcLengths
 pub mod ClcMoves
 pub mod ClcPosts

@@ -399,7 +399,7 @@ module _ (setup : Setup) (one : IsOneLink setup) (payload : List ℕ) where
       where
         by : News setup payload e past x s → Moving x s
         by (NoNews none) = Grows [] t r none w (λ f. refl) (omega arith)
-        by (OneNews link m is side a) = Posts link m t r is w a
+        by (OneNews link m is offers side a) = Posts link m t r is w a
 
     -- a message that is taken is the one that waits
     pub taken-waits : (t : ℕ) (dir : Side) → e.event ≡ Clc t dir → takes_message e.reply ≡ true → (m : ClcMessage) × (untaken dir t past ≡ m ∷ [])
@@ -446,7 +446,7 @@ module _ (setup : Setup) (one : IsOneLink setup) (payload : List ℕ) where
           where
             by_news : (m : ClcMessage) → untaken x s past ≡ m ∷ [] → x ≡ dir → News setup payload e past x s → Moving x s
             by_news m there side (NoNews none) = Takes m (takes-as (Clc t dir) is ∙ g) (reads-as (Clc t dir) is) none (writes-as (Clc t dir) is ∙ clc-writes payload x s t dir e.reply past) there
-            by_news m there side (OneNews link k posted acts a) = absurd (not-other x (acts ∙ (ap acting_side is ∙ ap other (sym side))))
+            by_news m there side (OneNews link k posted offers acts a) = absurd (not-other x (acts ∙ (ap acting_side is ∙ ap other (sym side))))
 
         by_read : (end : End) (len : ℕ) → e.event ≡ Read end len → (b : Bool) → (same_side (other x) end.side && ((s == end.s) && is_fallen (other x) s past)) ≡ b → Moving x s
         by_read end len is false g =

@@ -221,7 +221,7 @@ module _ (setup : Setup) (one : IsOneLink setup) (payload : List ℕ) where
 
         by : News setup payload e past (acting_side e.event) s → length (clc_bytes m) ≤ stream_room - length (stream payload (acting_side e.event) s past)
         by (NoNews none) = absurd (never (sym is ∙ none))
-        by (OneNews link k posted acts a) =
+        by (OneNews link k posted offers acts a) =
             let same : k ≡ m = first-is k m (sym posted ∙ is) in
             let i : IsMeasured k = measured-new setup payload (acting_side e.event) past link k a.new in
             let long = i.length_is in
@@ -237,7 +237,7 @@ module _ (setup : Setup) (one : IsOneLink setup) (payload : List ℕ) where
       where
         by : News setup payload e past x s → filter_map (clc_in x s) e.posts ≡ []
         by (NoNews none) = none
-        by (OneNews link m is side a) = absurd (not-other x (side ∙ acts))
+        by (OneNews link m is offers side a) = absurd (not-other x (side ∙ acts))
 
     their-writes : (x : Side) (s : ℕ) → acting_side e.event ≡ other x → written payload x s e.event e.reply past ≡ []
     their-writes x s acts = by e.event (built p.1) acts

@@ -1,7 +1,7 @@
 //! What the TCP streams of a history of one link are, entry by entry. Each law is a function with
 //! nothing to do, whose contract is the law.
 
-ghost use Rattle.std.specs.Prelude.{◌≡◌, ℕ, true, false, List, [], ◌∷◌, filter_map, length, Some, drop, flat_map, ◌++◌, ◌≤◌, ◌<◌, take, slice_set};
+ghost use Rattle.std.specs.Prelude.{◌≡◌, ℕ, true, false, List, [], ◌∷◌, filter_map, length, Some, drop, flat_map, ◌++◌, ◌≤◌, ◌<◌, take, slice_set, slice_index_or, ◌^◌};
 ghost use Rattle.smc_num.specs.declared.Side.{Side as Peer};
 ghost use Rattle.smc_num.specs.Names.{head, other};
 ghost use Rattle.pipe_model.specs.declared.setup.Setup.{Setup as Settings};
@@ -10,8 +10,9 @@ ghost use Rattle.pipe_model.specs.declared.event.Event.TheVariants.{Write, Read,
 ghost use Rattle.pipe_model.specs.declared.reply.Reply.TheVariants.{Bytes};
 ghost use Rattle.pipe_model.specs.declared.entry.Entry.{Entry as Line};
 ghost use Rattle.clc_wire.specs.declared.message.ClcMessage.{ClcMessage as Message};
-ghost use Rattle.clc_wire.specs.Clc.{clc_bytes, clc_length};
+ghost use Rattle.clc_wire.specs.Clc.{Fits, IsMessage, clc_bytes, clc_length};
 ghost use Rattle.pipe_model.specs.Fallback.{clc_in, is_fallen, stream, stream_room, untaken, written, read_out, takes_clc, takes_message};
+ghost use Rattle.side_core.specs.Setups.{IsSet};
 ghost use Rattle.world_core.specs.Played.{IsOneLink, IsPlayed};
 ghost use Rattle.world_core.specs.Hosts.{IsStreamAfter};
 ghost use Rattle.world_core.specs.Sending.{acting_side, outflow_at, puts_all, takes_next};
@@ -87,4 +88,15 @@ pub fn the_peers_streams_give_what_is_taken()
         → ((s : ℕ) → s < setup.sockets → IsStreamAfter payload (other end.side) s past (outflow_at s flows))
         → (s : ℕ) → s < setup.sockets
         → IsStreamAfter payload (other end.side) s (e ∷ past) (outflow_at s (slice_set flows end.s (gives_out k (outflow_at end.s flows)))) }
+{}
+
+/// The fields of the CLC messages that wait to be taken fit, so that each can be written.
+pub fn untaken_messages_can_be_written()
+    ensures fits { (setup : Settings) → IsOneLink setup → (payload : List ℕ) (past : List Line) (n : ℕ)
+        → IsPlayed setup payload past n → length past ≤ 2 ^ 18 → (y : Peer) → IsSet setup y
+        → (x : Peer) (s : ℕ) (m : Message) → head (untaken x s past) ≡ Some m → Fits m }
+    ensures widths { (setup : Settings) → IsOneLink setup → (payload : List ℕ) (past : List Line) (n : ℕ)
+        → IsPlayed setup payload past n → length past ≤ 2 ^ 18 → (y : Peer) → IsSet setup y
+        → (x : Peer) (s : ℕ) (m : Message) → head (untaken x s past) ≡ Some m
+        → (slice_index_or setup.subnet 0 (0, 0)).0 < 2 ^ 32 → IsMessage m }
 {}
