@@ -1,13 +1,12 @@
 -- The fields of the CLC messages that wait to be taken have the widths of their types, and fit.
 use Rattle.std.proofs.Common.{◌≡◌, ◌∙◌, ap, sym, subst, refl, arith, eq-eqb}
-use Rattle.std.specs.Prelude.{Bool, List, Option, Some, None, [], false, true, filter_map, if◌then◌else◌, length, drop, ℕ, suc, ◌+◌, ◌*◌, ◌^◌, ◌==◌, ◌++◌, ◌≤◌, ◌<◌, ◌∷◌, slice_index_or, option_map}
+use Rattle.std.specs.Prelude.{Bool, List, Option, Some, None, [], false, true, filter_map, if◌then◌else◌, length, drop, ℕ, suc, ◌+◌, ◌*◌, ◌^◌, ◌==◌, ◌≤◌, ◌<◌, ◌∷◌, slice_index_or}
 use Rattle.std.specs.Option.{option_or}
 use Rattle.std.specs.List.{cons_option}
 use Rattle.smc_num.specs.declared.Side.{Side}
 use Rattle.smc_num.specs.declared.Side.TheVariants.{A, B}
 use Rattle.smc_num.specs.declared.LinkId.{LinkId}
 use Rattle.smc_num.specs.Names.{head, at_side}
-use Rattle.smc_num.specs.Places.{rmb_address}
 use Rattle.clc_wire.specs.declared.offer.Offer.{Offer}
 use Rattle.clc_wire.specs.declared.message.ClcMessage.{ClcMessage}
 use Rattle.clc_wire.specs.declared.message.ClcMessage.TheVariants.{Proposal as ProposalMessage, Accept as AcceptMessage, Confirm as ConfirmMessage, Decline as DeclineMessage}
@@ -23,11 +22,11 @@ use Rattle.pipe_model.specs.Messages.{diagnosis, new_pair, next_pair, pair_numbe
 use Rattle.pipe_model.specs.Posts.{new_offer}
 use Rattle.pipe_model.specs.Fallback.{clc_in, takes_clc, untaken}
 use Rattle.side_core.specs.Setups.{IsSet}
-use Rattle.world_core.specs.OneLink.{is_of_first, the_key, the_link}
+use Rattle.world_core.specs.OneLink.{is_of_first}
 use Rattle.world_core.specs.Played.{IsOneLink, IsPlayed}
 use Rattle.world_core.specs.Sockets.{HasWorld, IsOffer}
 use Rattle.world_core.proofs.ClcLengths.{EachMessage, each-append, each-drop-one, each-first}
-use Rattle.world_core.proofs.ClcPosts.{IsAsked, IsNew, News, NoNews, OneNews, news, puts}
+use Rattle.world_core.proofs.ClcPosts.{IsNew, News, NoNews, OneNews, news, puts}
 use Rattle.world_core.proofs.LendingFacts.{few-lendings, played-lendings}
 use Rattle.world_core.proofs.PlayedWorlds.{played}
 use Rattle.world_core.proofs.Records.{all-offers}

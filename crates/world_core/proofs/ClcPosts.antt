@@ -1,7 +1,7 @@
 -- Which posts of an entry are CLC messages: at most one, of the side that acts, whose end has not fallen back and has none untaken.
-use Rattle.std.proofs.Common.{◌≡◌, ◌∙◌, ap, sym, subst, refl, inl, inr}
+use Rattle.std.proofs.Common.{◌≡◌, ◌∙◌, ap, sym, subst, refl}
 use Rattle.std.proofs.lemmas.Bool.{eqb-true, eq-eqb}
-use Rattle.std.specs.Prelude.{Bool, List, None, Option, Some, [], false, filter_map, if◌then◌else◌, length, option_map, true, ℕ, ◌&&◌, ◌||◌, ◌++◌, ◌==◌, ◌<◌, ◌∷◌, ◌⊎◌, not, slice_index_or}
+use Rattle.std.specs.Prelude.{Bool, List, None, Option, Some, [], false, filter_map, if◌then◌else◌, length, option_map, true, ℕ, ◌&&◌, ◌||◌, ◌++◌, ◌==◌, ◌<◌, ◌∷◌, not, slice_index_or}
 use Rattle.std.specs.List.{cons_option}
 use Rattle.std.specs.Option.{option_or}
 use Rattle.smc_num.specs.declared.Side.{Side}
@@ -31,14 +31,14 @@ use Rattle.pipe_model.specs.History.{Offered, offered, offer_in, offered_if}
 use Rattle.pipe_model.specs.Wires.{landing}
 use Rattle.pipe_model.specs.Fabric.{act_of}
 use Rattle.pipe_model.specs.Connections.{end_state}
-use Rattle.pipe_model.specs.Handshake.{lacks, verdict, key_step, on_proposal, on_accept, on_confirm, first_contact_step}
+use Rattle.pipe_model.specs.Handshake.{lacks, verdict, on_proposal, on_accept}
 use Rattle.pipe_model.specs.Fallback.{Front, front, front_of, front_of_posts, stream, untaken, is_fallen, is_fallen_state, is_opened, is_raw, clc_in}
 use Rattle.pipe_model.specs.Messages.{proposal, refusal}
 use Rattle.pipe_model.specs.Posts.{clc_posts, new_offer, connection_posts}
-use Rattle.pipe_model.specs.Replies.{clc_step, clc_told, expects, front_told, open_told, told}
-use Rattle.pipe_model.specs.Lawful.{asked, draft, front_posts, reply_of, act_posts}
+use Rattle.pipe_model.specs.Replies.{clc_step, open_told, told}
+use Rattle.pipe_model.specs.Lawful.{asked, draft, front_posts, reply_of}
 use Rattle.world_core.specs.Played.{IsBuilt, IsMade, IsOneLink, IsPlayed}
-use Rattle.world_core.specs.Sockets.{Accepted, AcceptFallen, AcceptRefused, AwaitsLink, Confirmed, Fallen, FirstAccepted, FirstConfirmed, FirstUp, FirstUpAtA, HasSocket, HasWorld, IsWorld, Proposed, Refused, Socket, StandsAt, Unopened, Up, end_at, offered_at, opened_at, untaken_at}
+use Rattle.world_core.specs.Sockets.{Accepted, AcceptFallen, AcceptRefused, AwaitsLink, Confirmed, Fallen, FirstAccepted, FirstConfirmed, FirstUp, FirstUpAtA, HasWorld, IsWorld, Proposed, Refused, Socket, StandsAt, Unopened, Up, end_at, offered_at, opened_at, untaken_at}
 use Rattle.world_core.specs.OneLink.{Stage}
 use Rattle.world_core.specs.Sending.{acting_side, puts_all}
 use Rattle.world_core.specs.Streams.{may_post_clc}

@@ -1,9 +1,9 @@
 -- What stands in the streams of a played history: the CLC messages that wait, and behind them the bytes of an end that has fallen back.
-use Rattle.std.proofs.Common.{◌≡◌, ◌∙◌, ap, sym, subst, refl, arith, length-append, append_assoc, append-nil, length-drop, eqb-true, eq-eqb, true≢false}
-use Rattle.std.proofs.lemmas.List.{length-take, length-take-le, take-take, take_min, drop_all, nil_from_length}
+use Rattle.std.proofs.Common.{◌≡◌, ◌∙◌, ap, sym, subst, refl, arith, length-append, append_assoc, append-nil, length-drop, eqb-true, true≢false}
+use Rattle.std.proofs.lemmas.List.{length-take, take-take, take_min, drop_all, nil_from_length}
 use Rattle.std.proofs.Math.Seq.{drop-append_seam, take-nil}
-use Rattle.std.proofs.Math.Nat.{min-le_left, min-le_right, min_comm}
-use Rattle.std.specs.Prelude.{Bool, List, Option, Some, None, [], false, true, filter_map, flat_map, if◌then◌else◌, length, take, drop, min, ℕ, ◌+◌, ◌-◌, ◌==◌, ◌&&◌, ◌||◌, not, slice_index_or, ◌++◌, ◌≤◌, ◌<◌, ◌∷◌, is_some}
+use Rattle.std.proofs.Math.Nat.{min-le_left, min_comm}
+use Rattle.std.specs.Prelude.{Bool, List, Option, [], false, true, filter_map, flat_map, if◌then◌else◌, length, take, drop, min, ℕ, ◌+◌, ◌-◌, ◌==◌, ◌&&◌, ◌||◌, not, slice_index_or, ◌++◌, ◌≤◌, ◌∷◌, is_some}
 use Rattle.smc_num.specs.declared.Side.{Side}
 use Rattle.smc_num.specs.declared.Side.TheVariants.{A, B}
 use Rattle.smc_num.specs.declared.LinkId.{LinkId}
@@ -22,14 +22,14 @@ use Rattle.pipe_model.specs.declared.entry.Entry.{Entry}
 use Rattle.pipe_model.specs.declared.closing.Phase.{Phase}
 use Rattle.pipe_model.specs.declared.closing.Phase.TheVariants.{Open}
 use Rattle.pipe_model.specs.Closing.{cause_of, struck, is_closing}
-use Rattle.pipe_model.specs.Calls.{Call, Told, Writes, Reads}
+use Rattle.pipe_model.specs.Calls.{Call, Writes}
 use Rattle.pipe_model.specs.Connections.{EndState, NoEnd, WaitsProposal, WaitsAnswer, WaitsConfirm, WaitsLink, IsUp, HasFallen, WasReset, end_state, early_state, is_up, after_event, after_loss, after_clc, group_on}
 use Rattle.pipe_model.specs.Fabric.{loses_group_with}
-use Rattle.pipe_model.specs.Fallback.{Front, Whole, NoMessage, Queues, front, front_of, front_length, clc_in, fallen_call, fallen_phase, fallen_write, flows_on, has_finished, is_fallen, is_fallen_state, is_opened, is_raw, own_phase, peer_did, queue_told, queues, read_out, stream, stream_room, takes_clc, takes_message, untaken, written}
-use Rattle.pipe_model.specs.Replies.{call_told, clc_told, end_told, expects, fallen_told, front_told, open_told, told}
+use Rattle.pipe_model.specs.Fallback.{Whole, NoMessage, Queues, front, front_of, front_length, clc_in, fallen_call, fallen_write, has_finished, is_fallen, is_fallen_state, is_opened, is_raw, own_phase, peer_did, queue_told, queues, read_out, stream, stream_room, takes_clc, takes_message, untaken, written}
+use Rattle.pipe_model.specs.Replies.{call_told, end_told, expects, fallen_told, front_told, open_told, told}
 use Rattle.pipe_model.specs.Lawful.{reply_of}
 use Rattle.world_core.specs.Played.{IsBuilt, IsMade, IsOneLink, IsPlayed}
-use Rattle.world_core.specs.Sockets.{Accepted, AcceptFallen, AcceptRefused, AwaitsLink, Confirmed, Fallen, FirstAccepted, FirstConfirmed, FirstUp, FirstUpAtA, HasSocket, HasWorld, IsWorld, Proposed, Refused, Socket, StandsAt, Unopened, Up, early_at, end_at, opened_at, untaken_at, up_at}
+use Rattle.world_core.specs.Sockets.{Accepted, AcceptFallen, AcceptRefused, AwaitsLink, Confirmed, Fallen, FirstAccepted, FirstConfirmed, FirstUp, FirstUpAtA, Proposed, Refused, Socket, StandsAt, Unopened, Up, early_at, end_at, opened_at, untaken_at}
 use Rattle.world_core.specs.Sending.{acting_side}
 use Rattle.world_core.proofs.ClcLengths.{IsMeasured, measured-new, first-measured}
 use Rattle.world_core.proofs.ClcPosts.{IsAsked, News, NoNews, OneNews, both-true, news, no-clc-posts, none-in, puts, same-side}

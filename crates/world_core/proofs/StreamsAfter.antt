@@ -12,7 +12,6 @@ use Rattle.smc_num.specs.Names.{head, other, same_side}
 use Rattle.clc_wire.specs.declared.message.ClcMessage.{ClcMessage}
 use Rattle.clc_wire.specs.declared.message.ClcMessage.TheVariants.{Accept as AcceptMessage, Confirm as ConfirmMessage}
 use Rattle.clc_wire.specs.Clc.{clc_bytes, clc_length}
-use Rattle.pipe_model.specs.declared.reply.Reply.{Reply}
 use Rattle.pipe_model.specs.declared.reply.Reply.TheVariants.{Bytes}
 use Rattle.pipe_model.specs.declared.event.End.{End}
 use Rattle.pipe_model.specs.declared.event.Event.{Event}
@@ -28,15 +27,14 @@ use Rattle.pipe_model.specs.Fallback.{clc_in, fallen_write, front_length, is_fal
 use Rattle.pipe_model.specs.Lawful.{reply_of}
 use Rattle.tcp_pipe.specs.Streams.{Direction, free}
 use Rattle.world_core.specs.Played.{IsBuilt, IsMade, IsOneLink, IsPlayed}
-use Rattle.world_core.specs.Hosts.{IsNext, IsStreamAfter}
+use Rattle.world_core.specs.Hosts.{IsStreamAfter}
 use Rattle.world_core.specs.Sending.{acting_side, outflow_at, puts, puts_all, still, takes_next}
 use Rattle.world_core.specs.Streams.{gives_out, may_post_clc, takes_in}
 use Rattle.world_core.specs.WireSteps.{EachPost}
 use Rattle.world_core.specs.declared.host.Outflow.{Outflow}
-use Rattle.world_core.specs.declared.host.Untaken.{Untaken}
 use Rattle.world_core.proofs.ClcLengths.{IsMeasured, measured-new}
-use Rattle.world_core.proofs.ClcPosts.{IsAsked, News, NoClc, NoNews, OneNews, Puts, PutsNone, PutsOne, news, no-clc-posts, none-in, none-offered, none-put, one-in, same-side, puts as puts-of}
-use Rattle.world_core.proofs.StreamFronts.{apart-sides, clc-writes, complete-writes, deliver-writes, fallen-call-told, fallen-heard-all, few-untaken, flowed, flowed-is, front-is-untaken, front-whole, not-other, open-writes, other-other, plus-none, put-of, read-by, read-writes, same-itself, taken-of, taken-waits, told-is, waits-is, written-by, wrote-is, zero-plus}
+use Rattle.world_core.proofs.ClcPosts.{IsAsked, News, NoClc, NoNews, OneNews, Puts, PutsNone, PutsOne, news, no-clc-posts, none-in, none-offered, none-put, one-in, puts as puts-of}
+use Rattle.world_core.proofs.StreamFronts.{apart-sides, clc-writes, complete-writes, deliver-writes, fallen-call-told, fallen-heard-all, few-untaken, flowed, flowed-is, front-is-untaken, front-whole, not-other, open-writes, other-other, plus-none, put-of, read-by, read-writes, same-itself, taken-of, told-is, waits-is, written-by, wrote-is, zero-plus}
 
 -- a post that is no message of a side on a socket makes no offer for it
 no-offer-apart : (x : Side) (s : ℕ) (y : Side) (t : ℕ) (link : Option LinkId) (m : ClcMessage) → (same_side x y && (s == t)) ≡ false → offer_in x s (Clc y t link m) ≡ None

@@ -1,7 +1,7 @@
 //! What the TCP streams of a history of one link are, entry by entry. Each law is a function with
 //! nothing to do, whose contract is the law.
 
-ghost use Rattle.std.specs.Prelude.{◌≡◌, ℕ, true, false, List, [], ◌∷◌, filter_map, length, Some, drop, flat_map, ◌++◌, ◌≤◌, ◌<◌, take, slice_set, slice_index_or, ◌^◌};
+ghost use Rattle.std.specs.Prelude.{◌≡◌, ℕ, true, false, List, [], ◌∷◌, filter_map, length, Some, drop, flat_map, ◌++◌, ◌≤◌, ◌<◌, take, slice_set, slice_index_or, ◌^◌, ◌-◌};
 ghost use Rattle.smc_num.specs.declared.Side.{Side as Peer};
 ghost use Rattle.smc_num.specs.Names.{head, other};
 ghost use Rattle.pipe_model.specs.declared.setup.Setup.{Setup as Settings};
@@ -49,9 +49,13 @@ pub fn a_stream_begins_with_what_waits()
 {}
 
 /// The streams that a host keeps of its own side stand for the history with an entry as soon as the
-/// posts of the entry went into them, where its application writes nothing.
+/// posts of the entry went into them, where its application writes nothing. A CLC message that is posted
+/// has room there.
 pub fn own_streams_stand_with_the_posts()
-    ensures { (setup : Settings) → IsOneLink setup → (payload : List ℕ) (e : Line) (past : List Line) (n : ℕ)
+    ensures room { (setup : Settings) → IsOneLink setup → (payload : List ℕ) (e : Line) (past : List Line) (n : ℕ)
+        → IsPlayed setup payload (e ∷ past) n → (s : ℕ) (m : Message) → filter_map (clc_in (acting_side e.event) s) e.posts ≡ m ∷ []
+        → length (clc_bytes m) ≤ stream_room - length (stream payload (acting_side e.event) s past) }
+    ensures stand { (setup : Settings) → IsOneLink setup → (payload : List ℕ) (e : Line) (past : List Line) (n : ℕ)
         → IsPlayed setup payload (e ∷ past) n → (flows : List Stream) → length flows ≡ setup.sockets
         → ((s : ℕ) → s < setup.sockets → IsStreamAfter payload (acting_side e.event) s past (outflow_at s flows))
         → ((s : ℕ) → written payload (acting_side e.event) s e.event e.reply past ≡ [])
