@@ -14,7 +14,10 @@ pub mod CallEntries
 pub mod Carried
 pub mod CarriedPosts
 pub mod Carrying
+pub mod ClcFits
+pub mod ClcLengths
 pub mod ClcMoves
+pub mod ClcPosts
 pub mod ClcTaken
 pub mod CompletionEntries
 pub mod ConfirmEntries
@@ -119,6 +122,8 @@ pub mod StartedRows
 pub mod StillEntries
 pub mod StillLent
 pub mod Stood
+pub mod StreamFronts
+pub mod StreamsAfter
 pub mod Tables
 pub mod TakenAlone
 pub mod TakenAnswers
