@@ -53,6 +53,7 @@ pub mod LinkManagers
 pub mod LinkMoves
 pub mod LinkRoom
 pub mod Lists
+pub mod MessageEnds
 pub mod Moved
 pub mod Moves
 pub mod NeverOver
