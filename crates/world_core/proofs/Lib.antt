@@ -29,6 +29,7 @@ pub mod FallenManagers
 pub mod Feasible
 pub mod FewUps
 pub mod Follows
+pub mod GoingUp
 pub mod Groups
 pub mod Grown
 pub mod Growth
