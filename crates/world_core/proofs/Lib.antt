@@ -112,3 +112,4 @@ pub mod Verdicts
 pub mod Ways
 pub mod WireEntries
 pub mod WireKept
+pub mod WriteEnds
