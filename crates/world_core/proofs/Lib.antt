@@ -11,6 +11,7 @@ pub mod CallEntries
 pub mod Carried
 pub mod Carrying
 pub mod ClcMoves
+pub mod ConfirmEnds
 pub mod ConfirmEntries
 pub mod ConfirmManagers
 pub mod Confirmations
@@ -28,6 +29,7 @@ pub mod EstablishedManagers
 pub mod FallenManagers
 pub mod Feasible
 pub mod FewUps
+pub mod FirstOn
 pub mod Follows
 pub mod GoingUp
 pub mod Groups
