@@ -20,6 +20,7 @@ pub mod ClcMoves
 pub mod ClcPosts
 pub mod ClcTaken
 pub mod CompletionEntries
+pub mod ConfirmEnds
 pub mod ConfirmEntries
 pub mod ConfirmManagers
 pub mod Confirmations
@@ -37,8 +38,10 @@ pub mod EstablishedManagers
 pub mod FallenManagers
 pub mod Feasible
 pub mod FewUps
+pub mod FirstOn
 pub mod Follows
 pub mod FreshEnds
+pub mod GoingUp
 pub mod Groups
 pub mod Grown
 pub mod Growth
@@ -71,6 +74,7 @@ pub mod LinkMoves
 pub mod LinkRoom
 pub mod LinkTold
 pub mod Lists
+pub mod MessageEnds
 pub mod Moved
 pub mod MovedWires
 pub mod Moves
@@ -141,3 +145,4 @@ pub mod WireEntries
 pub mod WireKept
 pub mod WireMoves
 pub mod WiresAfter
+pub mod WriteEnds
