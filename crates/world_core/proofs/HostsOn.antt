@@ -33,10 +33,19 @@ use Rattle.std.proofs.lemmas.List.{length-reverse}
 use Rattle.world_core.proofs.QuietEvents.{entry-of, by-side}
 use Rattle.world_core.proofs.Sends.{same_length}
 use Rattle.world_core.proofs.HostsKept.{buffer-kept, unposted}
-use Rattle.world_core.proofs.HandStubs.{Flowing, has-lendings, own-flows, wire-own, wire-theirs, room-own, may-send}
+use Rattle.world_core.specs.Hosts.{IsStreamAfter}
+use Rattle.world_core.specs.Sending.{outflow_at}
+use Rattle.world_core.proofs.AllLendings.{has-lendings}
+use Rattle.world_core.proofs.StreamsAfter.{own-flows}
+use Rattle.world_core.proofs.OwnWires.{wire-own, room-own, may-send}
+use Rattle.world_core.proofs.WiresAfter.{wire-theirs}
 
 pub twice : (x : Side) → other (other x) ≡ x
 twice = by-side (λ x. other (other x) ≡ x) refl refl
+
+-- the streams of a side after a history
+abbrev pub Flowing : List ℕ → ℕ → Side → List Entry → List Outflow → Type 0
+Flowing payload sockets x past flows = (s : ℕ) → s < sockets → IsStreamAfter payload x s past (outflow_at s flows)
 
 -- posts leave as many streams
 pub same_lengths : (posts : List Post) (flows : List Outflow) → length (puts_all posts flows) ≡ length flows
@@ -151,3 +160,6 @@ few-past at few = subst (λ n. n < 2 ^ 18) (sym (length-reverse at.history.now))
 
 pub number-past : (at : Moment) → length at.history.now + 1 ≡ next_number (past_of at)
 number-past at = ap (λ n. n + 1) (sym (length-reverse at.history.now))
+
+pub few-now : (at : Moment) → length at.history.now < 2 ^ 18 → length (past_of at) ≤ 2 ^ 18
+few-now at few = let l = few-past at few in omega (arith, l)

@@ -49,8 +49,9 @@ use Rattle.world_core.proofs.Lendings.{lent-to-up}
 use Rattle.world_core.proofs.TakenMessages.{end-is}
 use Rattle.world_core.proofs.EndRecords.{state-is}
 use Rattle.world_core.proofs.HostsKept.{if-none}
-use Rattle.world_core.proofs.HostsOn.{PlaysBy, own-sent, own-kept, theirs-then, both-then, turned, stood}
-use Rattle.world_core.proofs.HandStubs.{Flowing, has-lendings, their-flows}
+use Rattle.world_core.proofs.HostsOn.{Flowing, PlaysBy, own-sent, own-kept, theirs-then, both-then, turned, stood}
+use Rattle.world_core.proofs.AllLendings.{has-lendings}
+use Rattle.world_core.proofs.StreamsAfter.{their-flows}
 
 -- a socket has an end at the client just where it was opened
 end-there : (k : Socket) → has_end (end_at k A) ≡ opened_at k

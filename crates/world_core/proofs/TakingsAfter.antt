@@ -62,8 +62,11 @@ use Rattle.world_core.proofs.SoundEnds.{sound-at}
 use Rattle.world_core.proofs.EndRecords.{state-is}
 use Rattle.world_core.proofs.HostsKept.{if-none}
 use Rattle.world_core.proofs.TakenAlone.{paths_of}
-use Rattle.world_core.proofs.HostsOn.{PlaysBy, own-sent, own-kept, theirs-then, both-then, may-go, twice, stood}
-use Rattle.world_core.proofs.HandStubs.{Flowing, their-flows, their-taken, link_with, link_of, IsTaken, paths-up, taken, idle, held, may-take, can-make}
+use Rattle.world_core.proofs.HostsOn.{Flowing, PlaysBy, own-sent, own-kept, theirs-then, both-then, may-go, twice, stood}
+use Rattle.world_core.proofs.StreamsAfter.{their-flows, their-taken}
+use Rattle.world_core.proofs.ClcTaken.{IsTaken, IsIdle, link_with, link_of, held}
+use Rattle.world_core.proofs.TakenMessagesAll.{paths-up, taken, idle}
+use Rattle.world_core.proofs.HandStubs.{may-take, can-make}
 
 -- what an end is to take, by its state
 pub due-some : (st : EndState) (f : Outflow) (u : Untaken) → due_of (seen_state st) f ≡ Some u → (expects st ≡ true) × (f.next ≡ Some u)
@@ -274,7 +277,7 @@ module _ (setup : Setup) (payload : List ℕ) (past : List Entry) (heard s : ℕ
   given-by regions actor u e =
       let set = before.set in
       let d = is-due u e in
-      taken setup set.one payload regions (entry_of setup payload past heard actor (Clc s dir)) past (heard + 0) (plays actor) s dir refl d.waits u.message d.first
+      taken setup set.one payload regions past (heard + 0) s dir (entry_of setup payload past heard actor (Clc s dir)) refl (plays actor) d.waits u.message d.first
 
   up-now : paths_of past ≡ true ∷ []
   up-now = let set = before.set in paths-up setup set.one payload past heard before.played
@@ -307,8 +310,8 @@ module _ (setup : Setup) (payload : List ℕ) (past : List Entry) (heard s : ℕ
   pub would-not : due_on s own.core theirs.flows.items ≡ None → false ≡ does_something (told setup payload past (Clc s dir))
   would-not e =
       let set = before.set in
-      let t = idle setup set.one payload own-regions (entry_of setup payload past heard 0 (Clc s dir)) past (heard + 0) (plays 0) s dir refl (none-due e) in
-      ap (λ r. does_something (Plain r)) (sym t.0)
+      let t = idle setup set.one payload own-regions past (heard + 0) s dir (entry_of setup payload past heard 0 (Clc s dir)) refl (plays 0) (none-due e) in
+      ap (λ r. does_something (Plain r)) (sym t.reply)
 
   link-alike : (u : Untaken) → due_on s own.core theirs.flows.items ≡ Some u → unwrap_or u.link no_link ≡ link_of dir s past
   link-alike u e = let d = is-due u e in ap (λ (o : Option LinkId). unwrap_or o no_link) d.link
@@ -361,16 +364,16 @@ module _ (setup : Setup) (payload : List ℕ) (past : List Entry) (heard s : ℕ
     nothing-due e posts none =
         let set = before.set in
         let h = before.own in
-        let so = λ (regions : List Buffer) (actor : ℕ). idle setup set.one payload regions (entry_of setup payload past heard actor (Clc s dir)) past (heard + 0) (plays actor) s dir refl (none-due e) in
+        let so = λ (regions : List Buffer) (actor : ℕ). idle setup set.one payload regions past (heard + 0) s dir (entry_of setup payload past heard actor (Clc s dir)) refl (plays actor) (none-due e) in
         record {
-          reply_is = let t = so [] 0 in sym t.0;
-          posts_are = let t = so [] 0 in none ∙ sym t.1;
+          reply_is = let t = so [] 0 in sym t.reply;
+          posts_are = let t = so [] 0 in none ∙ sym t.posts;
           after = λ actor.
               let of-own = so own-regions actor in
               let of-theirs = so (buffer_of setup payload (other (other dir)) past ∷ []) actor in
               both-then setup payload past heard (Clc s dir) own theirs before few known lands-none unmoved-by silent-by actor own theirs
-              (own-kept setup payload past heard (Clc s dir) own theirs before few known lands-none unmoved-by silent-by actor own (subst (λ (m : Manager Half). StandsFor own.core m) (sym (of-own.2 (other dir))) h.side) of-own.1 refl refl)
-              (theirs-kept actor (ap (λ r. takes_it r) of-own.0) (of-theirs.2 (other (other dir))));
+              (own-kept setup payload past heard (Clc s dir) own theirs before few known lands-none unmoved-by silent-by actor own (subst (λ (m : Manager Half). StandsFor own.core m) (sym (of-own.both (other dir))) h.side) of-own.posts refl refl)
+              (theirs-kept actor (ap (λ r. takes_it r) of-own.reply) (of-theirs.both (other (other dir))));
         }
 
     -- a message is due, and the manager has taken it
@@ -408,7 +411,7 @@ module _ (setup : Setup) (payload : List ℕ) (past : List Entry) (heard s : ℕ
       held-now hold is g core wire flows =
           let waits : is_wait (verdict_at s u.message (paths_of past) own-manager) ≡ true =
               held-waits (named_group u.message) u.message (verdict_at s u.message (paths_of past) own-manager) hold (sym (told-alike u.message) ∙ (sym reply_is ∙ is)) in
-          let h = held s u.message (link_of dir s past) (paths_of past) own-manager waits (stood-there own-stands) in
+          let h = held s u.message (link_of dir s past) (paths_of past) own-manager waits in
           let none-posted : posted setup payload past heard (Clc s dir) ≡ [] = let t = given-by own-regions 0 u due in t.posts ∙ h.1 in
           record {
             reply_is = reply-so;
@@ -418,9 +421,6 @@ module _ (setup : Setup) (payload : List ℕ) (past : List Entry) (heard s : ℕ
                 (own-kept setup payload past heard (Clc s dir) own theirs before few known lands-none unmoved-by silent-by actor g (subst (λ w. StandsFor w (manager_of setup payload (buffer_of setup payload (other dir) past ∷ []) (other dir) (entry_of setup payload past heard actor (Clc s dir) ∷ past))) (sym core) (stands-so actor)) none-posted wire flows)
                 (theirs-kept actor (ap (λ q. takes_it q) (sym reply-so ∙ is)) (theirs-so actor ∙ ap (λ q. link_with q (manager_of setup payload (buffer_of setup payload (other (other dir)) past ∷ []) (other (other dir)) past)) is));
           }
-        where
-          stood-there : StandsFor own.core (manager_of setup payload (buffer_of setup payload (other dir) past ∷ []) (other dir) past) → s < length own-manager.hands
-          stood-there st = subst (λ (hs : List Hand). s < length hs) st.hands socket-at-own
 
       answered : r ≡ Sent ConfirmSent → (o : Offer) × (u.message ≡ AcceptMessage o)
       answered is =
@@ -446,9 +446,40 @@ module _ (setup : Setup) (payload : List ℕ) (past : List Entry) (heard s : ℕ
           let d = is-due u due in
           let h = theirs-before in
           may-make r u.link theirs.core.desk (λ is. (link-there is,
-            can-make setup set.one payload (buffer_of setup payload dir past ∷ []) past heard before.played s dir known d.waits u.message d.first theirs.core h.side
-              (sym (ap (λ st. step_told (named_group u.message) u.message st) (same-verdict s u.message (paths_of past) own.core (manager_of setup payload (buffer_of setup payload dir past ∷ []) (other dir) past) (regions-else own-stands)))
-              ∙ (ap (λ paths. taking_told s u.message paths own.core) up-now ∙ (sym reply_is ∙ is)))))
-        where
-          regions-else : StandsFor own.core (manager_of setup payload (buffer_of setup payload (other dir) past ∷ []) (other dir) past) → StandsFor (record own.core { regions = buffer_of setup payload dir past ∷ [] }) (manager_of setup payload (buffer_of setup payload dir past ∷ []) (other dir) past)
-          regions-else st = record { works = st.works; hands = st.hands; regions = refl }
+            can-make setup set.one payload (buffer_of setup payload dir past ∷ []) past heard before.played s dir known d.waits u.message d.first theirs.core h.side (sym (told-alike u.message) ∙ (sym reply_is ∙ is))))
+
+      taken-so : ((hold : Hold) → r ≡ Held hold → ⊥) → (verdict_at s u.message (true ∷ []) own.core ≡ AskKey → ⊥) → takes_it (reply_of heard (told setup payload past (Clc s dir))) ≡ true
+      taken-so not_held not_asked =
+          ap (λ q. takes_it q) (sym reply-so ∙ reply_is)
+          ∙ step-takes (named_group u.message) u.message (state_at s own.core) (lacks_of (true ∷ []) own.core.desk) (verdict_at s u.message (true ∷ []) own.core)
+            (tells (hand_at s own.core).raw (state_at s own.core) u.message (lacks_of (true ∷ []) own.core.desk)) not_asked (λ hold e. not_held hold (reply_is ∙ e))
+
+      over-flows : (actor : ℕ) → takes_it (reply_of heard (told setup payload past (Clc s dir))) ≡ true
+          → Flowing payload setup.sockets (other (other dir)) (entry_of setup payload past heard actor (Clc s dir) ∷ past) (hands_over s u.message theirs.flows.items)
+      over-flows actor takes =
+          let set = before.set in
+          let d = is-due u due in
+          let h = theirs-before in
+          subst (λ x. Flowing payload setup.sockets x (entry_of setup payload past heard actor (Clc s dir) ∷ past) (hands_over s u.message theirs.flows.items)) (sym (twice dir))
+          (their-taken setup set.one payload (entry_of setup payload past heard actor (Clc s dir)) past (heard + 0) (plays actor) dir s u.message refl takes d.first theirs.flows.items h.sockets h.flows)
+
+      -- it is taken
+      pub taken-now : ((hold : Hold) → r ≡ Held hold → ⊥) → (verdict_at s u.message (true ∷ []) own.core ≡ AskKey → ⊥) → (number : ℕ) → number ≡ next_number past → (g l : Host) → g.core ≡ v
+          → ((m : Manager Half) → StandsFor v m → g.wire ≡ with_posts (carried_from m number 1 posts) own.wire) → g.flows.items ≡ puts_all posts own.flows.items
+          → ((m : Manager Half) → StandsFor theirs.core m → StandsFor l.core (with_desk (makes_at (link_made_by r u.link)) m)) → l.wire ≡ theirs.wire → l.flows.items ≡ hands_over s u.message theirs.flows.items
+          → PlaysBy setup payload past heard (Clc s dir) r posts (other dir) g l
+      taken-now not_held not_asked number n g l core wire flows side_too wire_too flows_too =
+          let takes = taken-so not_held not_asked in
+          let h = before.theirs in
+          record {
+            reply_is = reply-so;
+            posts_are = posts-so;
+            after = λ actor.
+                both-then setup payload past heard (Clc s dir) own theirs before few known lands-none unmoved-by silent-by actor g l
+                (own-sent setup payload past heard (Clc s dir) own theirs before few known lands-none unmoved-by silent-by actor g (subst (λ w. StandsFor w (manager_of setup payload (buffer_of setup payload (other dir) past ∷ []) (other dir) (entry_of setup payload past heard actor (Clc s dir) ∷ past))) (sym core) (stands-so actor)) posts posts-so number n
+                    (λ m st. wire m (subst (λ w. StandsFor w m) core st)) flows)
+                (theirs-then setup payload past heard (Clc s dir) own theirs before few known lands-none unmoved-by silent-by actor l
+                    (subst (λ (m : Manager Half). StandsFor l.core m) (made-alike r u.link (manager_of setup payload (buffer_of setup payload (other (other dir)) past ∷ []) (other (other dir)) past) link-there ∙ sym (theirs-so actor)) (side_too _ h.side))
+                    wire_too (ap length flows_too ∙ (length-set theirs.flows.items s (takes_next u.message (outflow_at s theirs.flows.items)) ∙ h.sockets))
+                    (subst (λ fs. Flowing payload setup.sockets (other (other dir)) (entry_of setup payload past heard actor (Clc s dir) ∷ past) fs) (sym flows_too) (over-flows actor takes)));
+          }
