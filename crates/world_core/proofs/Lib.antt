@@ -58,6 +58,7 @@ pub mod LinkManagers
 pub mod LinkMoves
 pub mod LinkRoom
 pub mod Lists
+pub mod MayTakes
 pub mod Moved
 pub mod Moves
 pub mod NeverOver
