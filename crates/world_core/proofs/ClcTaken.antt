@@ -93,6 +93,7 @@ pub record IsTaken (setup : Setup) (payload : List ℕ) (regions : List Buffer) 
 pub record Confirms (setup : Setup) (x : Side) (s : ℕ) (past : List Entry) : Type 0 where
   pub side : x ≡ A
   pub begun : IsAtStage setup (Begun s) past
+  pub link : link_of B s past ≡ the_link
 
 -- that, and each socket has its lending
 pub record IsTakenSo (setup : Setup) (payload : List ℕ) (regions : List Buffer) (x : Side) (s : ℕ) (m : ClcMessage) (link : LinkId) (e : Entry) (past : List Entry) : Type 0 where
@@ -286,7 +287,7 @@ module _ (setup : Setup) (one : IsOneLink setup) (payload : List ℕ) (regions :
       at_begun = subst (λ (st : Stage). IsAtStage setup st past) begun world.link
 
       so : IsFirstConfirmed setup payload regions s o (entry-of actor (Clc s B) (Sent ConfirmSent) posts) past → Goal B (Sent ConfirmSent) (AcceptMessage o) the_link
-      so t = record { taken = record { reply = t.taken; posts = t.posts; own = t.own; theirs = t.theirs }; confirms = λ e. record { side = refl; begun = at_begun }; lendings_are = t.lendings_are }
+      so t = record { taken = record { reply = t.taken; posts = t.posts; own = t.own; theirs = t.theirs }; confirms = λ e. record { side = refl; begun = at_begun; link = ap (λ (q : Option Offered). unwrap_or (option_map (λ r. r.link) q) no_link) (at.offer B) }; lendings_are = t.lendings_are }
 
   named-by : (k : Socket) (o : Offer) → StandsAt setup k s past → offered_at k B ≡ on_link o → named_link s past ≡ Some the_link
   named-by k o at e = ap (λ (q : Option Offered). option_map (λ r. r.link) q) (at.offer B ∙ e)

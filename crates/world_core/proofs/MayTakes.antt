@@ -4,7 +4,7 @@ use Rattle.clc_handshake.specs.Stages.{Hand, named_group}
 use Rattle.clc_wire.specs.declared.offer.Offer.{Offer}
 use Rattle.pipe_model.specs.Handshake.{verdict}
 use Rattle.pipe_model.specs.History.{Offered, offered}
-use Rattle.pipe_model.specs.Keys.{offers}
+use Rattle.pipe_model.specs.Keys.{confirms, offers}
 use Rattle.pipe_model.specs.Messages.{proposal}
 use Rattle.pipe_model.specs.Plain.{begun}
 use Rattle.pipe_model.specs.Posts.{groups_begun}
@@ -17,7 +17,7 @@ use Rattle.smc_num.specs.Names.{at_side, head, no_link, other, up_to}
 use Rattle.smc_num.specs.declared.LinkId.{LinkId}
 use Rattle.smc_num.specs.declared.Side.{Side}
 use Rattle.smc_num.specs.declared.Side.TheVariants.{A, B}
-use Rattle.std.proofs.Common.{Bool, List, [], ap, arith, cond, eq-eqb, eqb-true, false, if◌then◌else◌, inl, inr, length, map, refl, subst, suc, sym, true, true≢false, zero, ℕ, ◌&&◌, ◌+◌, ◌<◌, ◌==◌, ◌^◌, ◌∙◌, ◌∷◌, ◌≡◌, ◌≤◌, ◌⊎◌}
+use Rattle.std.proofs.Common.{Bool, List, [], ap, arith, cond, eq-eqb, eqb-true, false, if◌then◌else◌, inl, inr, length, map, not, refl, subst, suc, sym, true, true≢false, zero, ℕ, ◌&&◌, ◌+◌, ◌<◌, ◌==◌, ◌^◌, ◌∙◌, ◌∷◌, ◌≡◌, ◌≤◌, ◌⊎◌}
 use Rattle.std.specs.Prelude.{None, Option, Some, option_map, slice_index_or, unwrap_or}
 use Rattle.world_core.proofs.AllLendings.{has-lendings}
 use Rattle.world_core.proofs.KeptManagers.{conn-at}
@@ -25,7 +25,6 @@ use Rattle.world_core.proofs.LinkFacts.{few-groups}
 use Rattle.world_core.proofs.Tables.{at-socket, sockets-long}
 use Rattle.world_core.proofs.TakenAlone.{paths_of}
 use Rattle.world_core.specs.OneLink.{Asking, Begun, LiveAtA, LiveAtBoth, Made, NoLink, Stage, fabric_at, the_link}
-use Rattle.world_core.specs.Played.{IsOneLink, IsPlayed}
 use Rattle.world_core.specs.Settings.{within}
 use Rattle.world_core.specs.Sockets.{Socket, Unopened, Fallen, Proposed, Refused, FirstAccepted, FirstConfirmed, AwaitsLink, FirstUpAtA, FirstUp, Accepted, AcceptRefused, AcceptFallen, Confirmed, Up, StandsAt, IsWorld, IsOffer as OfferStands, suits, end_at, untaken_at, offered_at, on_link, is_first}
 use Rattle.side_core.specs.Taking.{IsOffer, IsNext, MayHear, MayLend, MayTake, verdict_at}
@@ -57,6 +56,20 @@ use Rattle.pipe_model.specs.Ends.{Half}
 use Rattle.pipe_model.specs.Messages.{serial, new_pair}
 use Rattle.world_core.proofs.LinkManagers.{stage-desk}
 use Rattle.world_core.proofs.Lendings.{lending-due, no-lending-due}
+use Rattle.pipe_model.specs.declared.reply.Reply.{Reply}
+use Rattle.pipe_model.specs.declared.reply.Reply.TheVariants.{Idle, Sent, Established}
+use Rattle.pipe_model.specs.declared.reply.SentKind.TheVariants.{Confirm as ConfirmSent, ConfirmLink as LinkSent}
+use Rattle.pipe_model.specs.declared.event.Event.TheVariants.{Clc}
+use Rattle.pipe_model.specs.declared.verdict.ClcStep.{ClcStep}
+use Rattle.pipe_model.specs.declared.verdict.ClcStep.TheVariants.{SendAccept, SendConfirm, AskKey, Wait, Decline, Fell, Ready, Lost, Wrong}
+use Rattle.pipe_model.specs.Calls.{Plain}
+use Rattle.pipe_model.specs.Replies.{told as told_of_event}
+use Rattle.side_core.proofs.Allowed.{tells}
+use Rattle.side_core.proofs.Verdicts.{Tells}
+use Rattle.world_core.specs.Steps.{does_something, entry_of}
+use Rattle.pipe_model.specs.declared.verdict.Lacks.{Lacks}
+use Rattle.world_core.specs.Played.{IsOneLink, IsPlayed, IsMade, handed}
+use Rattle.world_core.proofs.TakenMessagesAll.{taken, taken-by-entry, idle}
 use Rattle.std.proofs.lemmas.Iterator.Adapters.{position_from-zero}
 
 -- the counts are small
@@ -346,3 +359,80 @@ may-take setup payload set past n p few regions dir v stands s known waits m fir
     let w = has-world setup set.one payload past n p in
     take-kept s m (link_of dir s past) (paths_of past) v (manager_of setup payload regions (other dir) past) stands
     (plain-may setup set.one payload regions past n p w.stage w.world s known few dir waits m first)
+
+-- the link may be made at B, where A confirms first contact
+pub record MayMake (dir : Side) (s : ℕ) (past : List Entry) (d : Desk) : Type 0 where
+  pub can : CanMake the_link d
+  pub link : link_of dir s past ≡ the_link
+
+pub can-make : (setup : Setup) (one : IsOneLink setup) (payload : List ℕ) (regions : List Buffer) (past : List Entry) (n s : ℕ) (dir : Side) (e : Entry) → e.event ≡ Clc s dir → IsPlayed setup payload (e ∷ past) n
+    → expects (end_state (other dir) s past) ≡ true → (m : ClcMessage) → head (untaken dir s past) ≡ Some m → e.reply ≡ Sent ConfirmSent
+    → (w : Manager Kept) → StandsFor w (manager_of setup payload regions (other (other dir)) past) → MayMake dir s past w.desk
+can-make setup one payload regions past n s A e is p waits m first sent w stands =
+    let t = taken-by-entry setup one payload regions past n s A e is p waits m first in
+    let c = t.confirms sent in
+    let wrong : B ≡ A = c.side in cc
+can-make setup one payload regions past n s B e is p waits m first sent w stands =
+    let t = taken-by-entry setup one payload regions past n s B e is p waits m first in
+    let c = t.confirms sent in
+    let k = stands.works in
+    let d : Desk = desk_of setup payload B past in
+    record {
+      can = subst (λ (d : Desk). CanMake the_link d) (sym (k.desk ∙ stage-desk setup payload B (Begun s) past c.begun)) (record {
+        slot = refl;
+        group = refl;
+        begun = refl;
+        none = refl;
+        next = ap (λ m. slice_index_or (map (λ k. made_in k (fabric_at (Begun s))) (up_to m)) 0 0 + 1) (sym one.links);
+      });
+      link = c.link;
+    }
+
+-- a verdict does something unless it is to wait
+does-so : (g : ℕ) (st : EndState) (m : ClcMessage) (l : Lacks) (step : ClcStep) → Tells step st m l → does_something (Plain (step_told g m step)) ≡ not (is_wait step)
+does-so g st m l (SendAccept first) t = refl
+does-so g st m l (SendConfirm true) t = refl
+does-so g st m l (SendConfirm false) t = refl
+does-so g st m l AskKey t = refl
+does-so g st m l (Wait hold) t = refl
+does-so g st m l (Decline lack) t = refl
+does-so g st m l Fell t = refl
+does-so g st (ConfirmMessage o) l Ready t = by o.first
+  where
+    by : (b : Bool) → does_something (Plain (if b then Sent LinkSent else Established)) ≡ true
+    by true = refl
+    by false = refl
+does-so g st (ProposalMessage p) l Ready t = absurd t
+does-so g st (AcceptMessage o) l Ready t = absurd t
+does-so g st (DeclineMessage r) l Ready t = absurd t
+does-so g st m l Lost t = refl
+does-so g st m l (Wrong kind) t = refl
+
+module _ (setup : Setup) (one : IsOneLink setup) (payload : List ℕ) (regions : List Buffer) (past : List Entry) (heard : ℕ) (p : IsPlayed setup payload past heard) (s : ℕ) (known : s < setup.sockets) (dir : Side) where
+  abbrev next : Entry
+  next = entry_of setup payload past heard 0 (Clc s dir)
+
+  next-played : IsPlayed setup payload (entry_of setup payload past heard 0 (Clc s dir) ∷ past) (heard + handed (told_of_event setup payload past (Clc s dir)))
+  next-played = (heard, record { built = known; reply = refl; posts = refl }, refl, p)
+
+  -- what a message would be told
+  pub would-be-told : expects (end_state (other dir) s past) ≡ true → (m : ClcMessage) → head (untaken dir s past) ≡ Some m → (v : Manager Kept) → StandsFor v (manager_of setup payload regions (other dir) past)
+      → clc_told setup payload s dir past ≡ taking_told s m (paths_of past) v
+  would-be-told waits m first v stands =
+      let t = taken setup one payload regions past (heard + handed (told_of_event setup payload past (Clc s dir))) s dir (entry_of setup payload past heard 0 (Clc s dir)) refl next-played waits m first in
+      t.reply ∙ sym (told-kept s m (paths_of past) v (manager_of setup payload regions (other dir) past) stands)
+
+  -- it does something unless it is held
+  pub would-take : expects (end_state (other dir) s past) ≡ true → (m : ClcMessage) → head (untaken dir s past) ≡ Some m → (v : Manager Kept) → StandsFor v (manager_of setup payload regions (other dir) past)
+      → does_something (told_of_event setup payload past (Clc s dir)) ≡ not (is_wait (verdict_at s m (paths_of past) v))
+  would-take waits m first v stands =
+      let plain : Manager Half = manager_of setup payload regions (other dir) past in
+      ap (λ r. does_something (Plain r)) (would-be-told waits m first v stands ∙ told-kept s m (paths_of past) v (manager_of setup payload regions (other dir) past) stands)
+      ∙ (does-so (named_group m) (state_at s plain) m (lacks_of (paths_of past) plain.desk) (verdict_at s m (paths_of past) plain) (tells s m (paths_of past) plain (verdict_at s m (paths_of past) plain) refl)
+      ∙ ap (λ st. not (is_wait st)) (sym (verdict-kept s m (paths_of past) v plain stands)))
+
+  -- where none is there, or the end expects none, nothing is done
+  pub would-idle : (expects (end_state (other dir) s past) ≡ false) ⊎ (head (untaken dir s past) ≡ None) → does_something (told_of_event setup payload past (Clc s dir)) ≡ false
+  would-idle none =
+      let i = idle setup one payload regions past (heard + handed (told_of_event setup payload past (Clc s dir))) s dir (entry_of setup payload past heard 0 (Clc s dir)) refl next-played none in
+      ap (λ r. does_something (Plain r)) i.reply
