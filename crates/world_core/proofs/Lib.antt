@@ -74,6 +74,7 @@ pub mod LinkMoves
 pub mod LinkRoom
 pub mod LinkTold
 pub mod Lists
+pub mod MayTakes
 pub mod MessageEnds
 pub mod Moved
 pub mod MovedWires

@@ -30,7 +30,7 @@ paths-up setup one payload past n p = let v = has-world setup one payload past n
 
 module _ (setup : Setup) (one : IsOneLink setup) (payload : List ℕ) (regions : List Buffer) (past : List Entry) (n s : ℕ) (dir : Side) where
   -- a message is taken, or held
-  taken-by-entry : (e : Entry) → e.event ≡ Clc s dir → IsPlayed setup payload (e ∷ past) n → expects (end_state (other dir) s past) ≡ true → (m : ClcMessage) → head (untaken dir s past) ≡ Some m
+  pub taken-by-entry : (e : Entry) → e.event ≡ Clc s dir → IsPlayed setup payload (e ∷ past) n → expects (end_state (other dir) s past) ≡ true → (m : ClcMessage) → head (untaken dir s past) ≡ Some m
       → IsTakenSo setup payload regions (other dir) s m (link_of dir s past) (entry-of e.actor (Clc s dir) e.reply e.posts) past
   taken-by-entry e is p waits m first =
       let v = has-world setup one payload past p.0 p.3 in
