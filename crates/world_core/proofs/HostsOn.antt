@@ -1,7 +1,6 @@
 -- What both hosts stand for after an entry that moves nothing on the link: the acting one has sent the entry's posts, and its peer none.
 use Rattle.std.proofs.Common.{◌≡◌, ◌∙◌, ℕ, ◌+◌, ◌<◌, ◌≤◌, ◌^◌, List, [], ◌∷◌, length, filter, refl, ap, sym, subst, arith}
 use Rattle.smc_num.specs.declared.Side.{Side}
-use Rattle.smc_num.specs.declared.Side.TheVariants.{A, B}
 use Rattle.smc_num.specs.Names.{other}
 use Rattle.rmb_region.specs.Regions.{Buffer}
 use Rattle.pipe_model.specs.declared.setup.Setup.{Setup}
@@ -75,7 +74,7 @@ module _ (setup : Setup) (payload : List ℕ) (past : List Entry) (heard : ℕ) 
       → StandsFor v (manager_of setup payload (buffer_of setup payload y (entry_of setup payload past heard actor event ∷ past) ∷ []) y (entry_of setup payload past heard actor event ∷ past))
   stands-then y v st =
       subst (λ (b : Buffer). StandsFor v (manager_of setup payload (b ∷ []) y (entry_of setup payload past heard actor event ∷ past)))
-        (sym (buffer-kept setup payload past (entry_of setup payload past heard actor event) y (lands (other y) (reply_of heard (told setup payload past event)) (posted setup payload past heard event) actor))) st
+      (sym (buffer-kept setup payload past (entry_of setup payload past heard actor event) y (lands (other y) (reply_of heard (told setup payload past event)) (posted setup payload past heard event) actor))) st
 
   -- that what is posted may be sent
   pub may-go : (v : Manager Kept) → StandsFor v (manager_of setup payload (buffer_of setup payload (acting_side event) past ∷ []) (acting_side event) (entry_of setup payload past heard actor event ∷ past))
@@ -84,9 +83,9 @@ module _ (setup : Setup) (payload : List ℕ) (past : List Entry) (heard : ℕ) 
       let own = before.own in
       let set = before.set in (
         subst (λ n. MaySendAll n v posts) (sym own.sockets) (subst (λ ps. MaySendAll setup.sockets v ps) (sym is)
-          (may-send setup set.one payload (entry_of setup payload past heard actor event) past (heard + handed (told setup payload past event)) played lendings-then (acting_side event) refl (buffer_of setup payload (acting_side event) past ∷ []) v st)),
+            (may-send setup set.one payload (entry_of setup payload past heard actor event) past (heard + handed (told setup payload past event)) played lendings-then (acting_side event) refl (buffer_of setup payload (acting_side event) past ∷ []) (omega (arith, few)) set v st)),
         subst (λ w. length (filter goes_on_wire posts) ≤ room_of w) (unmoved (acting_side event) h.wire) (subst (λ ps. length (filter goes_on_wire ps) ≤ room_of (moved (acting_side event) event h.wire)) (sym is)
-          (room-own setup set.one payload (entry_of setup payload past heard actor event) past (heard + handed (told setup payload past event)) played (acting_side event) refl h.wire own.wire))
+            (room-own setup set.one payload (entry_of setup payload past heard actor event) past (heard + handed (told setup payload past event)) played (acting_side event) refl h.wire own.wire)),
       )
 
   -- the host that has sent what is posted
@@ -99,8 +98,8 @@ module _ (setup : Setup) (payload : List ℕ) (past : List Entry) (heard : ℕ) 
       let set = before.set in
       let m = manager_of setup payload (buffer_of setup payload (acting_side event) past ∷ []) (acting_side event) (entry_of setup payload past heard actor event ∷ past) in
       let wire-is : with_posts (carried_from m (next_number past) 1 (posted setup payload past heard event)) (moved (acting_side event) event h.wire) ≡ g.wire =
-          ap (with_posts (carried_from m (next_number past) 1 (posted setup payload past heard event))) (unmoved (acting_side event) h.wire)
-          ∙ (ap (λ ps. with_posts (carried_from m (next_number past) 1 ps) h.wire) (sym is) ∙ (ap (λ i. with_posts (carried_from m i 1 posts) h.wire) (sym n) ∙ sym (wire m st))) in
+      ap (with_posts (carried_from m (next_number past) 1 (posted setup payload past heard event))) (unmoved (acting_side event) h.wire)
+      ∙ (ap (λ ps. with_posts (carried_from m (next_number past) 1 ps) h.wire) (sym is) ∙ (ap (λ i. with_posts (carried_from m i 1 posts) h.wire) (sym n) ∙ sym (wire m st))) in
       let flows-are : puts_all (posted setup payload past heard event) h.flows.items ≡ g.flows.items = ap (λ ps. puts_all ps h.flows.items) (sym is) ∙ sym flows in
       record {
         side = stands-then (acting_side event) g.core st;

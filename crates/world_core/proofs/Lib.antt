@@ -45,7 +45,6 @@ pub mod GoingUp
 pub mod Groups
 pub mod Grown
 pub mod Growth
-pub mod HandStubs
 pub mod Handshaken
 pub mod Handshakes
 pub mod Heads

@@ -1,4 +1,4 @@
-use Rattle.std.proofs.Common.{◌≡◌, ◌∙◌, ◌+◌, ◌≤◌, length, filter, refl, sym, ap, subst}
+use Rattle.std.proofs.Common.{◌∙◌, ◌+◌, ◌≤◌, length, filter, refl, sym, ap, subst}
 use Rattle.smc_num.specs.Names.{other}
 use Rattle.pipe_model.specs.declared.event.Event.TheVariants.{Clc}
 use Rattle.rc_link.specs.Wire.{room_of}
@@ -42,7 +42,7 @@ send-requires c =
     let at = c.args.moment in
     let t = c.take_clc-reply in
     let may = may-send-now at.setup.now at.payload.now (past_of at) at.heard c.args.s c.args.dir c.args.own.now c.args.theirs.now c.requires.hosts c.requires.socket (few-past at c.requires.few)
-        c.args.next.now c.requires.due t.result t.ensures.told t.new.self t.ensures.side c.args.posts.now.items t.new.posts.items c.requires.none t.ensures.posts in
+    c.args.next.now c.requires.due t.result t.ensures.told t.new.self t.ensures.side c.args.posts.now.items t.new.posts.items c.requires.none t.ensures.posts in
     record {
       may = subst (λ ps. MaySendAll (length c.args.own.now.flows.items) t.new.self ps) (sym c.as_slice.ensures.value) may.0;
       few = c.as_slice.ensures.fits;
