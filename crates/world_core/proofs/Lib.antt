@@ -35,6 +35,7 @@ pub mod Handshaken
 pub mod Handshakes
 pub mod Heads
 pub mod HomeLandings
+pub mod HostsSwapped
 pub mod Idle
 pub mod InHistory
 pub mod KeptManagers

@@ -91,6 +91,7 @@ fn act(
     requires fits { Fits moment.setup.now (length moment.payload.now) event }
     requires before { vec_len heard.old ≡ moment.heard }
     requires room { vec_len heard.old + handed (told_at moment event) ≤ vec_capacity heard.old }
+    requires least { vec_len heard.old + handed (told_at moment event) ≤ 2 ^ 26 }
     requires none { posts.old.items ≡ [] }
     ensures played { IsPlayedBy moment.entry event result posts.new.items A a.new b.new }
     ensures heard { heard.new.items ≡ heard.old.items ++ told_bytes (told_at moment.entry event) }
