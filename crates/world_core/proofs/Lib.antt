@@ -87,6 +87,7 @@ pub mod RisenEnds
 pub mod RisenPosts
 pub mod Rising
 pub mod SameManagers
+pub mod Sends
 pub mod Senders
 pub mod SentBatches
 pub mod Shaken
