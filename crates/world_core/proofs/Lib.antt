@@ -59,6 +59,7 @@ pub mod NeverOver
 pub mod NewManagers
 pub mod NewOffers
 pub mod News
+pub mod NextEvents
 pub mod NoResets
 pub mod Offers
 pub mod OnWay
@@ -110,3 +111,4 @@ pub mod Verdicts
 pub mod Ways
 pub mod WireEntries
 pub mod WireKept
+pub mod WorldAfter
