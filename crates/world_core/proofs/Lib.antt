@@ -28,6 +28,8 @@ pub mod FallenManagers
 pub mod Feasible
 pub mod FewUps
 pub mod Follows
+pub mod FreshHosts
+pub mod GoodSettings
 pub mod Groups
 pub mod Grown
 pub mod Growth
@@ -88,8 +90,8 @@ pub mod RisenEnds
 pub mod RisenPosts
 pub mod Rising
 pub mod SameManagers
-pub mod Sends
 pub mod Senders
+pub mod Sends
 pub mod SentBatches
 pub mod Shaken
 pub mod SmallEnds

@@ -1,8 +1,10 @@
 -- The first event among those of many sockets, socket by socket.
-use Rattle.std.specs.Prelude.{◌≡◌, ◌<◌, ℕ, ◌+◌, suc, Bool, List, [], ◌∷◌, ◌++◌, length, drop, slice_index_or, Option, Some, None, option_or}
+use Rattle.std.specs.Prelude.{◌≡◌, ◌<◌, ◌≤◌, ℕ, ◌+◌, suc, Bool, List, [], ◌∷◌, ◌++◌, length, drop, slice_index_or, Option, Some, None}
+use Rattle.std.specs.Option.{option_or}
 use Rattle.std.specs.List.{find, flat_map}
 use Rattle.std.proofs.Common.{ap, refl, sym, ◌∙◌, subst, arith}
 use Rattle.std.proofs.Math.Seq.{drop-cons}
+use Rattle.std.proofs.Math.ListN.{drop_of_length-le}
 use Rattle.std.proofs.lemmas.List.Folds.{find-append}
 
 module _ {X : Type 0} (p : X → Bool) (f : ℕ → List X) (xs : List ℕ) where
@@ -17,3 +19,6 @@ module _ {X : Type 0} (p : X → Bool) (f : ℕ → List X) (xs : List ℕ) wher
 
   pub found-later : (i : ℕ) → i < length xs → find p (flat_map f (drop i xs)) ≡ find p (flat_map f xs) → find p (f (slice_index_or xs i 0)) ≡ None → find p (flat_map f (drop (i + 1) xs)) ≡ find p (flat_map f xs)
   found-later i less whole none = sym (ap (λ o. option_or o (find p (flat_map f (drop (i + 1) xs)))) none) ∙ sym (one-more i less) ∙ whole
+
+  pub found-nowhere : (i : ℕ) → length xs ≤ i → find p (flat_map f (drop i xs)) ≡ find p (flat_map f xs) → None ≡ find p (flat_map f xs)
+  found-nowhere i all whole = ap (λ ys. find p (flat_map f ys)) (sym (drop_of_length-le xs all)) ∙ whole
