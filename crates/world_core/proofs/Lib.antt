@@ -3,12 +3,15 @@ pub mod AcceptManagers
 pub mod ActedEnds
 pub mod Agreed
 pub mod Agreement
+pub mod Aimers
+pub mod AskedFrom
 pub mod AskedPosts
 pub mod Batched
 pub mod Batches
 pub mod BoundKeys
 pub mod CallEntries
 pub mod Carried
+pub mod CarriedPosts
 pub mod Carrying
 pub mod ClcMoves
 pub mod ConfirmEntries
@@ -45,6 +48,7 @@ pub mod KeyedEnds
 pub mod KnownEntries
 pub mod Landed
 pub mod Landings
+pub mod LastSent
 pub mod LawfulPasts
 pub mod LendingFacts
 pub mod Lendings
@@ -70,6 +74,7 @@ pub mod OpenEnds
 pub mod OpenManagers
 pub mod Openings
 pub mod Own
+pub mod OwnWires
 pub mod Parts
 pub mod PipePosts
 pub mod PipeSteps
@@ -78,6 +83,7 @@ pub mod Places
 pub mod PlainPosts
 pub mod PlainWires
 pub mod PlayedWorlds
+pub mod PostsFrom
 pub mod Quiet
 pub mod QuietEntries
 pub mod QuietEvents
@@ -108,9 +114,12 @@ pub mod TakenMessages
 pub mod TellsKept
 pub mod Tokens
 pub mod TokensOnWay
+pub mod Unmade
 pub mod UpEnds
 pub mod Verdicts
 pub mod Ways
 pub mod WireEntries
 pub mod WireKept
+pub mod WireMoves
+pub mod WiresAfter
 pub mod WorldAfter
