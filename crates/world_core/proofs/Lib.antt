@@ -13,7 +13,10 @@ pub mod CallEntries
 pub mod Carried
 pub mod CarriedPosts
 pub mod Carrying
+pub mod ClcFits
+pub mod ClcLengths
 pub mod ClcMoves
+pub mod ClcPosts
 pub mod ConfirmEntries
 pub mod ConfirmManagers
 pub mod Confirmations
@@ -102,6 +105,8 @@ pub mod SentBatches
 pub mod Shaken
 pub mod SmallEnds
 pub mod Standing
+pub mod StreamFronts
+pub mod StreamsAfter
 pub mod StandingLendings
 pub mod StartedRows
 pub mod StillEntries
