@@ -27,6 +27,7 @@ pub mod Declines
 pub mod DirectedWrites
 pub mod Due
 pub mod DuePosts
+pub mod EndRecords
 pub mod EndedRows
 pub mod EntryItems
 pub mod EstablishedManagers
@@ -35,6 +36,7 @@ pub mod Feasible
 pub mod FewUps
 pub mod Follows
 pub mod FreshHosts
+pub mod GoingUp
 pub mod GoodSettings
 pub mod Groups
 pub mod Grown
@@ -62,6 +64,7 @@ pub mod LinkManagers
 pub mod LinkMoves
 pub mod LinkRoom
 pub mod Lists
+pub mod MessageEnds
 pub mod Moved
 pub mod Moves
 pub mod NeverOver
@@ -104,14 +107,15 @@ pub mod Sends
 pub mod SentBatches
 pub mod Shaken
 pub mod SmallEnds
+pub mod SoundEnds
 pub mod Standing
-pub mod StreamFronts
-pub mod StreamsAfter
 pub mod StandingLendings
 pub mod StartedRows
 pub mod StillEntries
 pub mod StillLent
 pub mod Stood
+pub mod StreamFronts
+pub mod StreamsAfter
 pub mod Tables
 pub mod TakenAlone
 pub mod TakenAnswers
@@ -128,3 +132,4 @@ pub mod WireKept
 pub mod WireMoves
 pub mod WiresAfter
 pub mod WorldAfter
+pub mod WriteEnds
