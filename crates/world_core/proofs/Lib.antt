@@ -4,6 +4,7 @@ pub mod ActedEnds
 pub mod Agreed
 pub mod Agreement
 pub mod Aimers
+pub mod AllLendings
 pub mod AskedFrom
 pub mod AskedPosts
 pub mod Batched
@@ -17,6 +18,7 @@ pub mod ClcFits
 pub mod ClcLengths
 pub mod ClcMoves
 pub mod ClcPosts
+pub mod ClcTaken
 pub mod ConfirmEntries
 pub mod ConfirmManagers
 pub mod Confirmations
@@ -35,6 +37,7 @@ pub mod FallenManagers
 pub mod Feasible
 pub mod FewUps
 pub mod Follows
+pub mod FreshEnds
 pub mod FreshHosts
 pub mod GoingUp
 pub mod GoodSettings
@@ -54,6 +57,9 @@ pub mod KnownEntries
 pub mod Landed
 pub mod Landings
 pub mod LastSent
+pub mod LastingLendings
+pub mod LaterConfirms
+pub mod LaterManagers
 pub mod LawfulPasts
 pub mod LendingFacts
 pub mod Lendings
