@@ -26,7 +26,9 @@ use Rattle.pipe_model.specs.Calls.{Writes}
 use Rattle.pipe_model.specs.Fallback.{clc_in, fallen_write, front_length, is_fallen, read_out, stream, stream_room, takes_clc, takes_message, untaken, written}
 use Rattle.pipe_model.specs.Lawful.{reply_of}
 use Rattle.tcp_pipe.specs.Streams.{Direction, free}
-use Rattle.world_core.specs.Played.{IsBuilt, IsMade, IsOneLink, IsPlayed}
+use Rattle.world_core.specs.Played.{IsBuilt, IsMade, IsOneLink, IsPlayed, handed}
+use Rattle.world_core.specs.Steps.{entry_of}
+use Rattle.pipe_model.specs.Replies.{told}
 use Rattle.world_core.specs.Hosts.{IsStreamAfter}
 use Rattle.world_core.specs.Sending.{acting_side, outflow_at, puts, puts_all, still, takes_next}
 use Rattle.world_core.specs.Streams.{gives_out, may_post_clc, takes_in}
@@ -35,6 +37,11 @@ use Rattle.world_core.specs.declared.host.Outflow.{Outflow}
 use Rattle.world_core.proofs.ClcLengths.{IsMeasured, measured-new}
 use Rattle.world_core.proofs.ClcPosts.{IsAsked, News, NoClc, NoNews, OneNews, Puts, PutsNone, PutsOne, news, no-clc-posts, none-in, none-offered, none-put, one-in, puts as puts-of}
 use Rattle.world_core.proofs.StreamFronts.{apart-sides, clc-writes, complete-writes, deliver-writes, fallen-call-told, fallen-heard-all, few-untaken, flowed, flowed-is, front-is-untaken, front-whole, not-other, open-writes, other-other, plus-none, put-of, read-by, read-writes, same-itself, taken-of, told-is, waits-is, written-by, wrote-is, zero-plus}
+
+-- the entry of an event that is built is played
+pub entry-played : (setup : Setup) (payload : List ℕ) (past : List Entry) (before actor : ℕ) (event : Event) → IsBuilt setup (length payload) event → IsPlayed setup payload past before
+    → IsPlayed setup payload (entry_of setup payload past before actor event ∷ past) (before + handed (told setup payload past event))
+entry-played setup payload past before actor event built q = (before, record { built = built; reply = refl; posts = refl }, refl, q)
 
 -- a post that is no message of a side on a socket makes no offer for it
 no-offer-apart : (x : Side) (s : ℕ) (y : Side) (t : ℕ) (link : Option LinkId) (m : ClcMessage) → (same_side x y && (s == t)) ≡ false → offer_in x s (Clc y t link m) ≡ None
