@@ -1,5 +1,6 @@
 -- New hosts stand for an empty history.
-use Rattle.std.specs.Prelude.{◌≡◌, ◌≤◌, ◌<◌, ℕ, ◌^◌, zero, suc, List, [], ◌∷◌, length, map, replicate, slice_index_or, None}
+use Rattle.world_core.specs.Hosts.{IsWireAfter}
+use Rattle.std.specs.Prelude.{false, ◌≡◌, ◌≤◌, ◌<◌, ℕ, ◌^◌, zero, suc, false, List, [], ◌∷◌, length, map, replicate, slice_index_or, None}
 use Rattle.std.proofs.Common.{refl, sym, ap, subst, ◌∙◌, arith}
 use Rattle.smc_num.specs.declared.Side.{Side}
 use Rattle.smc_num.specs.declared.Side.TheVariants.{A, B}
