@@ -2,6 +2,7 @@
 use Rattle.world_core.specs.Hosts.{IsWireAfter}
 use Rattle.std.specs.Prelude.{false, ◌≡◌, ◌≤◌, ◌<◌, ℕ, ◌^◌, zero, suc, false, List, [], ◌∷◌, length, map, replicate, slice_index_or, None}
 use Rattle.std.proofs.Common.{refl, sym, ap, subst, ◌∙◌, arith}
+use Rattle.std.proofs.lemmas.List.{length-replicate}
 use Rattle.smc_num.specs.declared.Side.{Side}
 use Rattle.smc_num.specs.declared.Side.TheVariants.{A, B}
 use Rattle.smc_num.specs.Names.{other, up_to}
