@@ -72,6 +72,7 @@ pub mod LinkRoom
 pub mod Lists
 pub mod MessageEnds
 pub mod Moved
+pub mod MovedWires
 pub mod Moves
 pub mod NeverOver
 pub mod NewManagers
@@ -95,6 +96,7 @@ pub mod Places
 pub mod PlainPosts
 pub mod PlainWires
 pub mod PlayedWorlds
+pub mod PostedClc
 pub mod PostsFrom
 pub mod Quiet
 pub mod QuietEntries
