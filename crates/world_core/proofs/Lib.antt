@@ -128,6 +128,7 @@ pub mod Tables
 pub mod TakenAlone
 pub mod TakenAnswers
 pub mod TakenMessages
+pub mod TakenMessagesAll
 pub mod TellsKept
 pub mod Tokens
 pub mod TokensOnWay
