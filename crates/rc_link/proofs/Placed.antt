@@ -1,8 +1,7 @@
 -- The posts of a wire without the plain snapshots beside them move alike.
-use Rattle.std.proofs.Common.{◌≡◌, refl, sym, Bool, true, false, if◌then◌else◌, List, [], ◌∷◌, ◌++◌, drop, take, map, filter, Option, None, Some, option_map, ap, ◌∙◌}
+use Rattle.std.proofs.Common.{◌≡◌, refl, sym, Bool, true, false, if◌then◌else◌, List, [], ◌∷◌, ◌++◌, drop, take, map, filter, None, option_map}
 use Rattle.std.proofs.lemmas.List.{map-append, append-nil}
 use Rattle.smc_num.specs.Names.{head}
-use Rattle.pipe_model.specs.declared.post.Placed.{Placed}
 use Rattle.pipe_model.specs.Wires.{completes_later}
 use Rattle.rc_link.specs.declared.Carried.{Carried}
 use Rattle.rc_link.specs.Wire.{Queues, placed, unlanded, uncompleted, is_dead, is_reported, may_swallow, landing, completing, swallowing, with_landed, with_completed, with_swallowed, landed_with}

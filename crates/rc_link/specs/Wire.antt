@@ -4,6 +4,9 @@ use Rattle.std.specs.Prelude.{◌≡◌, ◌⊎◌, ℕ, ◌-◌, ◌+◌, ◌&&
 use Rattle.smc_num.specs.declared.Side.{Side}
 use Rattle.smc_num.specs.declared.Side.TheVariants.{A, B}
 use Rattle.smc_num.specs.Names.{head}
+use Rattle.cdc_wire.specs.declared.CdcMessage.{CdcMessage}
+use Rattle.pipe_model.specs.declared.post.Post.{Post}
+use Rattle.pipe_model.specs.declared.post.Post.TheVariants.{Write, Cdc, Llc, Clc}
 use Rattle.pipe_model.specs.declared.post.Placed.{Placed}
 use Rattle.pipe_model.specs.Words.{is_nil}
 use Rattle.pipe_model.specs.Wires.{completes_later}
@@ -67,6 +70,14 @@ may_swallow w = (w.cut && not (is_reported w)) && is_nil w.landed
 -- the post that would be swallowed
 abbrev pub swallowing : Queues → Option Carried
 swallowing w = if may_swallow w then head w.waiting else None
+
+-- the next CDC message among posts: the writes before it belong to the connection that its token names
+abbrev pub next_cdc : List Post → Option CdcMessage
+next_cdc [] = None
+next_cdc (Write from link key address len ∷ posts) = next_cdc posts
+next_cdc (Cdc from link m ∷ posts) = Some m
+next_cdc (Llc from link m ∷ posts) = next_cdc posts
+next_cdc (Clc from s link m ∷ posts) = next_cdc posts
 
 -- the wire after one more post
 abbrev pub with_post : Carried → Queues → Queues

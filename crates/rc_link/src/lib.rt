@@ -8,9 +8,9 @@
 //! [`Wire::new`].
 #![tactic(auto)]
 
-ghost use Rattle.std.specs.Prelude.{◌≡◌, ◌<◌, IfOk, is_some, not, true, false};
+ghost use Rattle.std.specs.Prelude.{◌≡◌, ◌<◌, IfOk, is_some, map, not, true, false};
 ghost use Rattle.pipe_model.specs.Wires.{completes_later as completes};
-ghost use Rattle.rc_link.specs.Wire.{empty, room_of, is_reported_by, is_reported, is_dead, landing, completing, swallowing, landed_with, with_post, with_landed, with_completed, with_swallowed, with_report, IsSpent};
+ghost use Rattle.rc_link.specs.Wire.{empty, room_of, is_reported_by, is_reported, is_dead, landing, completing, swallowing, landed_with, with_post, with_landed, with_completed, with_swallowed, with_report, next_cdc, IsSpent};
 
 mod laws;
 
@@ -18,7 +18,7 @@ use circular_buffer::HeapCircularBuffer;
 pub use laws::{
     the_first_landed_post_completes, the_first_post_is_swallowed, the_first_post_lands,
 };
-use pipe_model::{Post, PostRef, Side, Snapshot};
+use pipe_model::{CdcMessage, Post, PostRef, Side, Snapshot};
 use smc_num::NoMemory;
 use std::alloc::Global;
 use std::marker::Model;
@@ -139,6 +139,18 @@ impl Wire {
             self.landed.push_back(item);
         }
         Some(item)
+    }
+
+    /// The next CDC message among the posts that have not landed.
+    pub fn next_cdc(&self) -> Option<CdcMessage>
+        ensures { result ≡ next_cdc (map (λ c. c.post) self.now.waiting) }
+    {
+        for item in self.waiting.iter() {
+            if let Post::Cdc { message, .. } = item.post {
+                return Some(message);
+            }
+        }
+        None
     }
 
     /// The oldest landed post completes, unless a side has reported the link.

@@ -26,7 +26,8 @@ use Rattle.pipe_model.specs.Posts.{offered_place}
 use Rattle.world_core.specs.Played.{IsOneLink, IsPlayed}
 use Rattle.world_core.specs.OneLink.{the_link}
 use Rattle.world_core.specs.WireSteps.{landing_now, leaving, LandsNow, Way}
-use Rattle.world_core.specs.Landed.{next_cdc, bytes_of, waiting_posts, first_lands, written_for, peer_buffer, Stand, GoOn, Carries, Reaches, IsRmb}
+use Rattle.rc_link.specs.Wire.{next_cdc}
+use Rattle.world_core.specs.Landed.{bytes_of, waiting_posts, first_lands, written_for, peer_buffer, Stand, GoOn, Carries, Reaches, IsRmb}
 use Rattle.world_core.proofs.LendingFacts.{played-lendings}
 use Rattle.world_core.proofs.NeverOver.{peer-not-fallen}
 use Rattle.world_core.proofs.StandingLendings.{stays-lent}

@@ -19,6 +19,8 @@ pub mod ClcLengths
 pub mod ClcMoves
 pub mod ClcPosts
 pub mod ClcTaken
+pub mod CompletionEntries
+pub mod ConfirmEnds
 pub mod ConfirmEntries
 pub mod ConfirmManagers
 pub mod Confirmations
@@ -36,6 +38,7 @@ pub mod EstablishedManagers
 pub mod FallenManagers
 pub mod Feasible
 pub mod FewUps
+pub mod FirstOn
 pub mod Follows
 pub mod FreshEnds
 pub mod FreshHosts
@@ -44,10 +47,13 @@ pub mod GoodSettings
 pub mod Groups
 pub mod Grown
 pub mod Growth
+pub mod HandStubs
 pub mod Handshaken
 pub mod Handshakes
 pub mod Heads
 pub mod HomeLandings
+pub mod HostsKept
+pub mod HostsOn
 pub mod HostsSwapped
 pub mod Idle
 pub mod InHistory
@@ -69,6 +75,7 @@ pub mod LinkFacts
 pub mod LinkManagers
 pub mod LinkMoves
 pub mod LinkRoom
+pub mod LinkTold
 pub mod Lists
 pub mod MessageEnds
 pub mod Moved
@@ -86,6 +93,7 @@ pub mod OneSender
 pub mod OpenEnds
 pub mod OpenManagers
 pub mod Openings
+pub mod OpeningsAfter
 pub mod Own
 pub mod OwnWires
 pub mod Parts
@@ -129,6 +137,7 @@ pub mod TakenAlone
 pub mod TakenAnswers
 pub mod TakenMessages
 pub mod TakenMessagesAll
+pub mod TakingsAfter
 pub mod TellsKept
 pub mod Tokens
 pub mod TokensOnWay

@@ -15,7 +15,8 @@ use Rattle.pipe_model.specs.declared.post.Post.{Post}
 use Rattle.pipe_model.specs.declared.post.Post.TheVariants.{Write, Cdc, Llc, Clc}
 use Rattle.pipe_model.specs.declared.sent.Sent.{Sent}
 use Rattle.world_core.specs.WireSteps.{EachPost}
-use Rattle.world_core.specs.Landed.{next_cdc, carried, Carries}
+use Rattle.rc_link.specs.Wire.{next_cdc}
+use Rattle.world_core.specs.Landed.{carried, Carries}
 use Rattle.world_core.proofs.AskedPosts.{IsControl}
 
 some-is : (m n : CdcMessage) → Some m ≡ Some n → m ≡ n

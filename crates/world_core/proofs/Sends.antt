@@ -60,7 +60,7 @@ room_first : (posts : List Post) (post : Post) (w : Queues) (b : Bool) → lengt
 room_first posts post w true few e = omega (arith, few)
 room_first posts post w false few e = absurd (cc)
 
-same_length : (post : Post) (flows : List Outflow) → length (puts_one post flows) ≡ length flows
+pub same_length : (post : Post) (flows : List Outflow) → length (puts_one post flows) ≡ length flows
 same_length (Clc from s link message) flows = length-set flows s (puts link message (outflow_at s flows))
 same_length (Write from link key address len) flows = refl
 same_length (Cdc from link message) flows = refl

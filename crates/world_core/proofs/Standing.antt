@@ -28,7 +28,8 @@ use Rattle.world_core.specs.Played.{IsOneLink, IsPlayed}
 use Rattle.world_core.specs.OneLink.{the_link}
 use Rattle.world_core.specs.Sockets.{on_link}
 use Rattle.world_core.specs.Lent.{HavePlaces}
-use Rattle.world_core.specs.Landed.{next_cdc, carried, told_next, bytes_of, waiting_posts, Carries, Reaches, IsRmb}
+use Rattle.rc_link.specs.Wire.{next_cdc}
+use Rattle.world_core.specs.Landed.{carried, told_next, bytes_of, waiting_posts, Carries, Reaches, IsRmb}
 use Rattle.world_core.proofs.PlayedWorlds.{played}
 use Rattle.world_core.proofs.LendingFacts.{played-lendings}
 use Rattle.world_core.proofs.Records.{found-is, record-of-offer, all-offers}

@@ -6,6 +6,7 @@ use Rattle.smc_num.specs.Names.{other, same_side, head}
 use Rattle.smc_num.specs.Places.{Place, address_of}
 use Rattle.cdc_wire.specs.declared.CdcMessage.{CdcMessage}
 use Rattle.rmb_region.specs.Regions.{Buffer, IsWhole, fresh, lands, byte_at}
+use Rattle.rc_link.specs.Wire.{next_cdc}
 use Rattle.pipe_model.specs.declared.setup.Setup.{Setup}
 use Rattle.pipe_model.specs.declared.post.Post.{Post}
 use Rattle.pipe_model.specs.declared.post.Post.TheVariants.{Write, Cdc, Llc, Clc}
@@ -20,14 +21,6 @@ use Rattle.pipe_model.specs.Pipe.{half}
 use Rattle.pipe_model.specs.Lending.{Lending, pipe_of, record_of}
 use Rattle.world_core.specs.OneLink.{the_link}
 use Rattle.world_core.specs.WireSteps.{landing_now}
-
--- the next CDC message among posts: the writes before it belong to the connection that its token names
-abbrev pub next_cdc : List Post → Option CdcMessage
-next_cdc [] = None
-next_cdc (Write from link key address len ∷ posts) = next_cdc posts
-next_cdc (Cdc from link m ∷ posts) = Some m
-next_cdc (Llc from link m ∷ posts) = next_cdc posts
-next_cdc (Clc from s link m ∷ posts) = next_cdc posts
 
 -- how many bytes the writes before it carry
 abbrev pub carried : List Post → ℕ

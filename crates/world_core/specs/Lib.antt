@@ -2,10 +2,12 @@ pub mod Agreement
 pub mod Directed
 pub mod Due
 pub mod Goings
+pub mod Handing
 pub mod Heard
 pub mod Hosts
 pub mod Lacking
 pub mod Landed
+pub mod Leaving
 pub mod Lent
 pub mod Managers
 pub mod OneLink
