@@ -1,5 +1,6 @@
 pub mod Cutting
 pub mod Numbers
+pub mod Subnets
 pub mod Names
 pub mod Runs
 pub mod Mentions
