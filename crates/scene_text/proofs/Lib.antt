@@ -4,5 +4,6 @@ pub mod Subnets
 pub mod Names
 pub mod Runs
 pub mod Mentions
+pub mod Ranges
 pub mod Reading
 pub mod Sound

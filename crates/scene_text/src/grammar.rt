@@ -273,7 +273,8 @@ pub fn read_scene(alloc: Global, bytes: &[u8]) -> Result<Scene, SceneFault>
 
     ensures sound { IfOk result (λ scene. IsSound (plain scene)) }
 {
-    let mut scene = read_lines(alloc, bytes)?.scene;
+    let draft = read_lines(alloc, bytes)?;
+    let mut scene = draft.scene;
     scene.count_sockets();
     Ok(scene)
 }
