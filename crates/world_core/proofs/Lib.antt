@@ -41,7 +41,9 @@ pub mod FewUps
 pub mod FirstOn
 pub mod Follows
 pub mod FreshEnds
+pub mod FreshHosts
 pub mod GoingUp
+pub mod GoodSettings
 pub mod Groups
 pub mod Grown
 pub mod Growth
@@ -51,6 +53,7 @@ pub mod Heads
 pub mod HomeLandings
 pub mod HostsKept
 pub mod HostsOn
+pub mod HostsSwapped
 pub mod Idle
 pub mod InHistory
 pub mod KeptManagers
@@ -82,6 +85,7 @@ pub mod NeverOver
 pub mod NewManagers
 pub mod NewOffers
 pub mod News
+pub mod NextEvents
 pub mod NoResets
 pub mod Offers
 pub mod OnWay
@@ -145,4 +149,5 @@ pub mod WireEntries
 pub mod WireKept
 pub mod WireMoves
 pub mod WiresAfter
+pub mod WorldAfter
 pub mod WriteEnds
