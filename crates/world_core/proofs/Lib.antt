@@ -45,6 +45,7 @@ pub mod KeptManagers
 pub mod KeyedEnds
 pub mod KnownEntries
 pub mod Landed
+pub mod LandingNow
 pub mod Landings
 pub mod LawfulPasts
 pub mod LendingFacts
