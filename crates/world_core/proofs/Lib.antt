@@ -60,6 +60,7 @@ pub mod KeptManagers
 pub mod KeyedEnds
 pub mod KnownEntries
 pub mod Landed
+pub mod LandingNow
 pub mod Landings
 pub mod LastSent
 pub mod LastingLendings
