@@ -148,6 +148,12 @@ pub mod Verdicts
 pub mod Ways
 pub mod WireEntries
 pub mod WireKept
+pub mod ReadAnswers
+pub mod CallsAfter
+pub mod CallStates
+pub mod WritesAfter
+pub mod ReadTold
+pub mod ReadsAfter
 pub mod WireMoves
 pub mod WiresAfter
 pub mod WorldAfter

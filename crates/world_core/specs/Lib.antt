@@ -21,3 +21,4 @@ pub mod Streams
 pub mod Views
 pub mod WireSteps
 pub mod Wired
+pub mod Calling
