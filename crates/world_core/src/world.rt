@@ -1,7 +1,8 @@
 //! The world: what was set, what has happened, what was handed out, and the two hosts.
-ghost use Rattle.std.specs.Prelude.{◌≡◌, ◌↔◌, ◌≤◌, ◌<◌, ◌+◌, ◌^◌, ◌++◌, ◌∷◌, [], ℕ, length, vec_len, vec_capacity, IfOk, IsTrue, None, Some, Err, option_to_list};
+ghost use Rattle.std.specs.Prelude.{◌≡◌, ◌↔◌, ◌≤◌, ◌<◌, ◌+◌, ◌^◌, ◌++◌, ◌∷◌, [], ℕ, length, vec_len, vec_capacity, IfOk, IfSome, IsTrue, None, Some, Err, option_to_list};
 ghost use Rattle.std.specs.List.{All, find, flat_map};
 ghost use Rattle.smc_num.specs.declared.Side.TheVariants.{A};
+ghost use Rattle.smc_num.specs.Names.{up_to};
 ghost use Rattle.pipe_model.specs.Fits.{Fits};
 ghost use Rattle.world_core.specs.Played.{handed};
 ghost use Rattle.world_core.specs.Heard.{told_bytes};
@@ -290,7 +291,8 @@ impl World {
     /// The first event, in the order of the link's posts and then of the sockets as they were opened, that
     /// would do something.
     pub fn next(&self) -> Option<Event>
-        ensures { result ≡ next_event self.now }
+        ensures first { result ≡ next_event self.now }
+        ensures fits { IfSome result (Fits self.now.setup (length self.now.payload)) }
     {
         match self.next_on_link() {
             Some(event) => Some(event),
@@ -300,7 +302,8 @@ impl World {
 
     /// The first landing or completion that would do something.
     fn next_on_link(&self) -> Option<Event>
-        ensures { result ≡ find (λ event. does_something (told_by self.now event)) (slot_events 1) }
+        ensures first { result ≡ find (λ event. does_something (told_by self.now event)) (flat_map slot_events (up_to self.now.setup.links)) }
+        ensures fits { IfSome result (Fits self.now.setup (length self.now.payload)) }
     {
         let moment = self.moment();
         if can_land(&self.a, &self.b, moment, Side::A) {
@@ -320,7 +323,8 @@ impl World {
 
     /// The first CLC message that would be taken, on the sockets as they were opened.
     fn next_on_sockets(&self) -> Option<Event>
-        ensures { result ≡ find (λ event. does_something (told_by self.now event)) (flat_map socket_events (opening_order (past self.now))) }
+        ensures first { result ≡ find (λ event. does_something (told_by self.now event)) (flat_map socket_events (opening_order (past self.now))) }
+        ensures fits { IfSome result (Fits self.now.setup (length self.now.payload)) }
     {
         self.next_on_these(&self.opened)
     }
@@ -328,7 +332,8 @@ impl World {
     /// The first CLC message that would be taken on some sockets.
     fn next_on_these(&self, sockets: &[u32]) -> Option<Event>
         requires { All (λ s. s < self.now.setup.sockets) sockets.now }
-        ensures { result ≡ find (λ event. does_something (told_by self.now event)) (flat_map socket_events sockets.now) }
+        ensures first { result ≡ find (λ event. does_something (told_by self.now event)) (flat_map socket_events sockets.now) }
+        ensures fits { IfSome result (Fits self.now.setup (length self.now.payload)) }
     {
         for s in sockets {
             if let Some(event) = self.next_on(*s) {
@@ -341,7 +346,8 @@ impl World {
     /// The first CLC message of a socket that would be taken.
     fn next_on(&self, s: u32) -> Option<Event>
         requires { s < self.now.setup.sockets }
-        ensures { result ≡ find (λ event. does_something (told_by self.now event)) (socket_events s) }
+        ensures first { result ≡ find (λ event. does_something (told_by self.now event)) (socket_events s) }
+        ensures fits { IfSome result (Fits self.now.setup (length self.now.payload)) }
     {
         let moment = self.moment();
         if would_take(&self.b, &self.a, moment, s, Side::A) {
