@@ -409,10 +409,6 @@ mod tests {
         s: 0,
     };
 
-    const fn at(entry: u32, post: u8) -> PostRef {
-        PostRef { entry, post }
-    }
-
     /// Two bytes go from A to B: the opening by its six entries, a write, its two posts, a read.
     const CROSSING: [(Event, Reply); 10] = [
         (Event::Open(0), Reply::Opened),
@@ -442,14 +438,14 @@ mod tests {
                 slot: 1,
                 dir: Side::B,
             },
-            Reply::Landed(at(4, 1)),
+            Reply::Landed(PostRef { entry: 4, post: 1 }),
         ),
         (
             Event::Deliver {
                 slot: 1,
                 dir: Side::A,
             },
-            Reply::Landed(at(5, 1)),
+            Reply::Landed(PostRef { entry: 5, post: 1 }),
         ),
         (
             Event::Write {
@@ -464,14 +460,14 @@ mod tests {
                 slot: 1,
                 dir: Side::A,
             },
-            Reply::Landed(at(7, 1)),
+            Reply::Landed(PostRef { entry: 7, post: 1 }),
         ),
         (
             Event::Deliver {
                 slot: 1,
                 dir: Side::A,
             },
-            Reply::Landed(at(7, 2)),
+            Reply::Landed(PostRef { entry: 7, post: 2 }),
         ),
         (
             Event::Read { end: B, len: 9 },
@@ -498,9 +494,9 @@ mod tests {
             dir: Side::A,
         };
         assert!(rt; !world.fits(&Event::Cut(1)));
-        assert_eq!(rt; world.pump(0), Ok(Some(Reply::Landed(at(10, 1)))));
+        assert_eq!(rt; world.pump(0), Ok(Some(Reply::Landed(PostRef { entry: 10, post: 1 }))));
         assert_eq!(rt; world.next(), Some(completes));
-        assert_eq!(rt; world.pump(0), Ok(Some(Reply::Completed(at(7, 1)))));
+        assert_eq!(rt; world.pump(0), Ok(Some(Reply::Completed(PostRef { entry: 7, post: 1 }))));
         assert_eq!(rt; world.history().len(), 12);
         Ok(())
     }
