@@ -115,3 +115,6 @@ pub mod WireEntries
 pub mod WireKept
 pub mod WireMoves
 pub mod LinkTold
+pub mod LinkStubs
+pub mod CompletionsAfter
+pub mod OnWire
