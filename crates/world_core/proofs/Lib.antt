@@ -3,6 +3,7 @@ pub mod AcceptManagers
 pub mod ActedEnds
 pub mod Agreed
 pub mod Agreement
+pub mod AskedFrom
 pub mod AskedPosts
 pub mod Batched
 pub mod Batches
@@ -78,6 +79,7 @@ pub mod PlainPosts
 pub mod PlainWires
 pub mod PlayedWorlds
 pub mod Quiet
+pub mod PostsFrom
 pub mod QuietEntries
 pub mod QuietEvents
 pub mod QuietManagers
