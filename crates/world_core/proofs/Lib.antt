@@ -56,6 +56,7 @@ pub mod LinkManagers
 pub mod LinkMoves
 pub mod LinkRoom
 pub mod Lists
+pub mod MessageEnds
 pub mod Moved
 pub mod Moves
 pub mod NeverOver

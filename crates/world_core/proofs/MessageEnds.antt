@@ -1,0 +1,288 @@
+-- The CDC message at the front of a wire is one that its end sent, told beside it plainly, and the manager at each side may take it.
+use Rattle.std.proofs.Common.{◌≡◌, ◌∙◌, ℕ, ◌+◌, ◌-◌, ◌==◌, ◌&&◌, ◌<◌, ◌≤◌, ◌^◌, Bool, true, false, if◌then◌else◌, nat_lt, List, [], ◌∷◌, length, map, take, drop, zero, suc, refl, ap, sym, subst, true≢false, arith, ltb-true}
+use Rattle.std.specs.Prelude.{Option, Some, None, is_some, option_map, unwrap_or}
+use Rattle.std.specs.List.{cons_option}
+use Rattle.smc_num.specs.declared.Side.{Side}
+use Rattle.smc_num.specs.declared.Side.TheVariants.{A, B}
+use Rattle.smc_num.specs.declared.LinkId.{LinkId}
+use Rattle.smc_num.specs.Names.{other, same_side, same_link, head}
+use Rattle.cdc_wire.specs.declared.CdcMessage.{CdcMessage}
+use Rattle.rmb_region.specs.Regions.{Buffer}
+use Rattle.pipe_model.specs.declared.setup.Setup.{Setup}
+use Rattle.pipe_model.specs.declared.snapshot.Snapshot.{Snapshot}
+use Rattle.pipe_model.specs.declared.sent.Sent.{Sent}
+use Rattle.pipe_model.specs.declared.entry.Entry.{Entry}
+use Rattle.pipe_model.specs.declared.post.Post.{Post}
+use Rattle.pipe_model.specs.declared.post.Post.TheVariants.{Cdc}
+use Rattle.pipe_model.specs.declared.post.PostRef.{PostRef}
+use Rattle.pipe_model.specs.declared.post.Placed.{Placed}
+use Rattle.pipe_model.specs.Words.{element_size}
+use Rattle.pipe_model.specs.Snapshot.{spelled, validation}
+use Rattle.pipe_model.specs.History.{Offered, offered, post_at}
+use Rattle.pipe_model.specs.Wires.{is_on, unlanded, uncompleted}
+use Rattle.pipe_model.specs.Ends.{Half, to_land, to_complete, is_over}
+use Rattle.pipe_model.specs.Parts.{MayTake}
+use Rattle.pipe_model.specs.Pipe.{half}
+use Rattle.pipe_model.specs.Connections.{IsUp, is_up, end_state, part, group_on}
+use Rattle.pipe_model.specs.Lending.{lends_by, terms_of, pipe_of}
+use Rattle.pipe_model.proofs.Facts.{lands-well, completes-well}
+use Rattle.rc_link.specs.declared.Carried.{Carried}
+use Rattle.rc_link.specs.Wire.{Queues, placed}
+use Rattle.conn_end.specs.Kept.{Kept}
+use Rattle.conn_end.specs.Arrivals.{IsSpelling, Lands, Completes, MayComplete}
+use Rattle.conn_end.specs.Batches.{message_of}
+use Rattle.side_core.specs.Records.{Connection, conn_at, holder, aimer}
+use Rattle.side_core.specs.Manager.{Manager, StandsFor}
+use Rattle.side_core.specs.Comings.{Arrives, MayArrive, MayArriveAt, ArrivesAt, MayCompleteAt, CompletesAt}
+use Rattle.side_core.specs.Landing.{MayLandIn, LandsIn, MayCompleteIn, CompletesIn, dropped, dropped_by}
+use Rattle.world_core.specs.Played.{IsOneLink, IsPlayed}
+use Rattle.world_core.specs.OneLink.{the_link}
+use Rattle.world_core.specs.Sockets.{Socket, Unopened, Fallen, Proposed, Refused, FirstAccepted, FirstConfirmed, AwaitsLink, FirstUpAtA, FirstUp, Accepted, AcceptRefused, AcceptFallen, Confirmed, Up, up_at, end_at}
+use Rattle.world_core.specs.Wired.{cdc_under, returning}
+use Rattle.world_core.specs.WireSteps.{IsPlaced, EachPlaced}
+use Rattle.world_core.specs.Agreement.{Spelling, next_to_land, next_to_complete}
+use Rattle.world_core.specs.Hosts.{IsWorldSet, IsWireAfter, TellsPlainly, half_of, plains, plain_under, shots}
+use Rattle.world_core.specs.Managers.{manager_of, records_of, end_of, keeps_element, HasLendings}
+use Rattle.world_core.proofs.Places.{unlanded-stand, uncompleted-stand}
+use Rattle.world_core.proofs.PlainWires.{plain-some}
+use Rattle.world_core.proofs.Heads.{unlanded-there, uncompleted-there, first-meant, lands-spelled, completes-spelled}
+use Rattle.world_core.proofs.Own.{grouped}
+use Rattle.world_core.proofs.TakenMessages.{end-is}
+use Rattle.world_core.proofs.WireEntries.{IsMessage}
+use Rattle.world_core.proofs.PlayedWorlds.{played}
+use Rattle.world_core.proofs.Handshaken.{shaken, has-offers}
+use Rattle.world_core.proofs.Pipes.{has-pipe}
+use Rattle.world_core.proofs.SoundEnds.{sound-at}
+use Rattle.world_core.proofs.EndRecords.{KeptBeside, UpConn, up-conn, plain_conn, plain-there, kept-there, holder-is}
+
+-- the end of the peer of one that is up keeps its element
+peer-keeps : (k : Socket) (x : Side) → up_at k x ≡ true → keeps_element (end_at k (other x)) ≡ true
+peer-keeps (FirstUpAtA o p) A e = refl
+peer-keeps (FirstUpAtA o p) B e = absurd (true≢false (sym e))
+peer-keeps (FirstUp o p) A e = refl
+peer-keeps (FirstUp o p) B e = refl
+peer-keeps (Confirmed o p) A e = refl
+peer-keeps (Confirmed o p) B e = absurd (true≢false (sym e))
+peer-keeps (Up o p) A e = refl
+peer-keeps (Up o p) B e = refl
+peer-keeps Unopened x e = absurd (true≢false (sym e))
+peer-keeps Fallen x e = absurd (true≢false (sym e))
+peer-keeps Proposed x e = absurd (true≢false (sym e))
+peer-keeps (Refused r) x e = absurd (true≢false (sym e))
+peer-keeps (FirstAccepted o) x e = absurd (true≢false (sym e))
+peer-keeps (FirstConfirmed o p) x e = absurd (true≢false (sym e))
+peer-keeps (AwaitsLink o p) x e = absurd (true≢false (sym e))
+peer-keeps (Accepted o) x e = absurd (true≢false (sym e))
+peer-keeps (AcceptRefused o r) x e = absurd (true≢false (sym e))
+peer-keeps (AcceptFallen o) x e = absurd (true≢false (sym e))
+
+-- the first of a queue stands beside the first of what an end has under way
+first-shot : (ms : List Sent) (r : Sent) → head ms ≡ Some r → head (shots ms) ≡ Some r.snapshot
+first-shot [] r e = absurd (true≢false (sym (ap (λ (q : Option Sent). is_some q) e)))
+first-shot (m ∷ ms) r e = ap (λ (q : Option Sent). option_map (λ (k : Sent). k.snapshot) q) e
+
+first-plain : (x : Side) (token : ℕ) (c : Carried) (rest cs : List Carried) (m : CdcMessage) (ms : List Sent) (r : Sent) → cs ≡ c ∷ rest → cdc_under x token c.post ≡ Some m → plains x token cs ≡ shots ms → head ms ≡ Some r → c.plain ≡ r.snapshot
+first-plain x token c rest cs m ms r e u p h =
+    same c.plain r.snapshot
+    (ap (λ (o : Option Snapshot). head (cons_option o (plains x token rest))) (sym (plain-some x token c m u))
+    ∙ (ap (λ ds. head (plains x token ds)) (sym e) ∙ (ap (λ ss. head ss) p ∙ first-shot ms r h)))
+  where
+    same : (a b : Snapshot) → Some a ≡ Some b → a ≡ b
+    same a b e = ap (λ (q : Option Snapshot). unwrap_or q a) e
+
+head-take : (n : ℕ) (ms : List Sent) → head (take (suc n) ms) ≡ head ms
+head-take n [] = refl
+head-take n (m ∷ ms) = refl
+
+-- what is next to complete is the first that has landed and not completed
+next-is : (h : Half) (r : Sent) → next_to_complete h ≡ Some r → (head (to_complete h) ≡ Some r) × (head (returning h) ≡ Some r)
+next-is h r e = by (nat_lt h.completed h.landed) refl e
+  where
+    by : (b : Bool) → nat_lt h.completed h.landed ≡ b → (if b then head (to_complete h) else None) ≡ Some r → (head (to_complete h) ≡ Some r) × (head (returning h) ≡ Some r)
+    by false t e = absurd (true≢false (sym (ap (λ (q : Option Sent). is_some q) e)))
+    by true t e =
+        let l = ltb-true h.completed h.landed t in
+        let n : h.landed - h.completed ≡ suc (h.landed - h.completed - 1) = omega (arith, l) in
+        (e, ap (λ n. head (take n (to_complete h))) n ∙ (head-take (h.landed - h.completed - 1) (to_complete h) ∙ e))
+
+-- what has something under way has sent
+some-sent : (m : Sent) (ms : List Sent) (i : ℕ) → head (drop i ms) ≡ Some m → ms ≡ [] → ⊥
+some-sent m ms i e f = nothing i (sym (ap (λ ns. head (drop i ns)) f) ∙ e)
+  where
+    nothing : (j : ℕ) → head (drop j []) ≡ Some m → ⊥
+    nothing zero g = true≢false (sym (ap (λ (q : Option Sent). is_some q) g))
+    nothing (suc j) g = true≢false (sym (ap (λ (q : Option Sent). is_some q) g))
+
+same-offer : (o q : Option Offered) (a b : Offered) → o ≡ Some a → o ≡ Some b → a.offer.token ≡ b.offer.token
+same-offer o q a b e f = ap (λ (p : Option Offered). unwrap_or (option_map (λ (r : Offered). r.offer.token) p) 0) (sym e ∙ f)
+
+side-is : (x y : Side) → same_side x y ≡ true → y ≡ x
+side-is A A e = refl
+side-is B B e = refl
+side-is A B e = absurd (true≢false (sym e))
+side-is B A e = absurd (true≢false (sym e))
+
+and-left : (a b : Bool) → (a && b) ≡ true → a ≡ true
+and-left true b e = refl
+and-left false b e = e
+
+-- that all ends of a manager are made for elements of its size
+abbrev pub AreSized : Manager Kept → Type 0
+AreSized v = (s : ℕ) (k : Connection Kept) → conn_at s v.records ≡ Some k → k.end.size ≡ v.records.terms.size
+
+module _ (setup : Setup) (payload : List ℕ) (set : IsWorldSet setup payload) (past : List Entry) (n : ℕ) (p : IsPlayed setup payload past n) (x : Side) where
+  abbrev Queue : Type 0
+  Queue = List Placed
+
+  -- a message of a queue in the history
+  message-of : (queue : Queue) (c : Placed) (rest : Queue) (from : Side) (l : LinkId) (m : CdcMessage) (place : Half → Option Sent) → EachPlaced (λ c. is_on the_link x c.post ≡ true) queue → EachPlaced (IsPlaced past) queue
+      → queue ≡ c ∷ rest → c.post ≡ Cdc from l m → (sp : Spelling setup payload x past m place) → IsMessage x sp.s c.at past
+  message-of queue c rest from l m place there stands q e sp =
+      let on = subst (λ cs. EachPlaced (λ c. is_on the_link x c.post ≡ true) cs) q there in
+      let at = subst (λ cs. EachPlaced (IsPlaced past) cs) q stands in
+      let known = at.0 in
+      let side : from ≡ x = side-is x from (and-left (same_side x from) (same_link the_link l) (ap (λ post. is_on the_link x post) (sym e) ∙ on.0)) in
+      record { link = l; message = m; post = known.is ∙ (ap (λ q. Some q) e ∙ ap (λ y. Some (Cdc y l m)) side); offer = sp.offer; offered_is = sp.offered_is; token = sp.token }
+
+  -- an end with a message under way is up
+  sender-up : (s : ℕ) (m : Sent) (i : ℕ) → head (drop i (end_of setup payload x s past).sent) ≡ Some m → (u : Bool) → is_up x s past ≡ u → u ≡ true
+  sender-up s m i e true f = refl
+  sender-up s m i e false f = let q = has-pipe setup payload s past n p (shaken setup set.one payload past n p) in absurd (some-sent m (end_of setup payload x s past).sent i e (q.idle x f))
+
+  -- told plainly, in the pipe of its socket
+  tells : (w : Queues) → IsWireAfter setup payload x past w → (s : ℕ) (o : Offered) → offered (other x) s past ≡ Some o → TellsPlainly x o.offer.token w (end_of setup payload x s past)
+  tells w wire s o f = let plain = wire.plain s o f in
+      subst (λ g. TellsPlainly x o.offer.token w (half x (pipe_of setup payload g s past))) (sym (grouped setup past (has-offers setup set.one payload past n p) (other x) s o f)) plain
+
+  spelling-is : (size : ℕ) (m : CdcMessage) (sent : Sent) (plain : Snapshot) → size ≡ element_size setup → sent.check ≡ false → m ≡ spelled (element_size setup) m.token sent.snapshot → plain ≡ sent.snapshot → IsSpelling size m plain sent
+  spelling-is size m sent plain z c e f = record {
+    spelled = e ∙ (ap (λ k. spelled k m.token sent.snapshot) (sym z) ∙ ap (λ b. if b then validation size m.token sent.snapshot else spelled size m.token sent.snapshot) (sym c));
+    plainly = λ q. f;
+  }
+
+  module _ (few : length past ≤ 2 ^ 18) (lendings_are : HasLendings setup payload past) (regions : List Buffer) where
+    -- what completes at its sender
+    module _ (v : Manager Kept) (st : StandsFor v (manager_of setup payload regions x past)) (sized : AreSized v) where
+      pub record Completing (m : CdcMessage) (plain : Snapshot) (at : PostRef) : Type 0 where
+        pub s : ℕ
+        pub sent : Sent
+        pub next : next_to_complete (end_of setup payload x s past) ≡ Some sent
+        pub first : head (to_complete (end_of setup payload x s past)) ≡ Some sent
+        pub message : IsMessage x s at past
+        pub plain_is : plain ≡ sent.snapshot
+        pub completes : CompletesIn s m plain sent v (manager_of setup payload regions x past)
+        pub may : MayCompleteIn m plain v
+
+      pub completing : (w : Queues) → IsWireAfter setup payload x past w → (c : Carried) (rest : List Carried) (from : Side) (l : LinkId) (m : CdcMessage) → w.landed ≡ c ∷ rest → c.post ≡ Cdc from l m → Completing m c.plain c.at
+      completing w wire c rest from l m q e =
+          let h = shaken setup set.one payload past n p in
+          let queue : uncompleted the_link x past ≡ placed c ∷ map placed rest = sym wire.landed ∙ ap (λ cs. map placed cs) q in
+          let sp : Spelling setup payload x past m next_to_complete = completes-spelled setup payload x past n p h (placed c) (map placed rest) from l m queue e in
+          let next = next-is (end_of setup payload x sp.s past) sp.sent sp.sent_is in
+          let up : is_up x sp.s past ≡ true = sender-up sp.s sp.sent (end_of setup payload x sp.s past).completed next.0 (is_up x sp.s past) refl in
+          let u = up-conn setup payload regions x past v st set.one n p lendings_are sp.s up in
+          let tell = tells w wire sp.s sp.offer sp.offered_is in
+          let under : cdc_under x (sp.offer).offer.token c.post ≡ Some m = subst (λ t. cdc_under x t c.post ≡ Some m) sp.token
+              (first-meant the_link x (uncompleted the_link x past) (placed c) (map placed rest) from l m (uncompleted-there the_link x past) queue e) in
+          let plain : c.plain ≡ (sp.sent).snapshot = first-plain x (sp.offer).offer.token c rest w.landed m (returning (end_of setup payload x sp.s past)) sp.sent q under tell.completing next.1 in
+          let aimed : aimer m.token v.records ≡ Some sp.s = ap (λ t. aimer t v.records) (sp.token ∙ same-offer (offered (other x) sp.s past) None sp.offer u.theirs sp.offered_is u.theirs_is) ∙ u.aimed in
+          let kept = u.kept in
+          let pipe = has-pipe setup payload sp.s past n p h in
+          let can = pipe.can_be in
+          let stands = kept.stands in
+          let works = st.works in
+          let all = works.records in
+          let size : kept.kept.end.size ≡ element_size setup = sized sp.s kept.kept kept.kept_is ∙ ap (λ t. t.size) all.terms in
+          let done : Completes kept.kept.end m c.plain (end_of setup payload x sp.s past) sp.sent = record {
+            stands = stands.end;
+            spelling = spelling-is kept.kept.end.size m sp.sent c.plain size sp.open_sent.0 sp.spells plain;
+            oldest = λ b. completes-well (terms_of setup) x (part payload (group_on sp.s past) sp.s past) sp.sent can.feasible next.0 b;
+          } in
+          record {
+            s = sp.s;
+            sent = sp.sent;
+            next = sp.sent_is;
+            first = next.0;
+            message = message-of (uncompleted the_link x past) (placed c) (map placed rest) from l m next_to_complete (uncompleted-there the_link x past) (uncompleted-stand the_link x past) queue e sp;
+            plain_is = plain;
+            completes = record {
+              aimed = aimed;
+              completes = subst (λ k. CompletesAt m c.plain sp.sent k (conn_at sp.s (records_of setup payload x past))) (sym kept.kept_is)
+                  (subst (λ k. CompletesAt m c.plain sp.sent (Some kept.kept) k) (sym u.plain_is) done);
+            };
+            may = record {
+              sender = λ t f. subst (λ r. MayCompleteAt m c.plain (conn_at r v.records)) (the-same sp.s t (sym aimed ∙ f))
+                  (subst (λ k. MayCompleteAt m c.plain k) (sym kept.kept_is) (record { end = end_of setup payload x sp.s past; sent = sp.sent; completes = done }));
+              sound = λ t f. sound-at setup payload set past n p few x regions v st t;
+            };
+          }
+        where
+          the-same : (s t : ℕ) → Some s ≡ Some t → s ≡ t
+          the-same s t e = ap (λ (q : Option ℕ). unwrap_or q s) e
+
+    -- what lands at the peer
+    module _ (v : Manager Kept) (st : StandsFor v (manager_of setup payload regions (other x) past)) (sized : AreSized v) where
+      pub record Landing (m : CdcMessage) (plain : Snapshot) (at : PostRef) : Type 0 where
+        pub s : ℕ
+        pub sent : Sent
+        pub next : head (to_land (end_of setup payload x s past)) ≡ Some sent
+        pub message : IsMessage x s at past
+        pub plain_is : plain ≡ sent.snapshot
+        pub lands : LandsIn s m plain sent v (manager_of setup payload regions (other x) past)
+        pub may : MayLandIn m plain v
+        pub kept : dropped m.token v ≡ None
+
+      pub landing : (w : Queues) → IsWireAfter setup payload x past w → (c : Carried) (rest : List Carried) (from : Side) (l : LinkId) (m : CdcMessage) → w.waiting ≡ c ∷ rest → c.post ≡ Cdc from l m → Landing m c.plain c.at
+      landing w wire c rest from l m q e =
+          let h = shaken setup set.one payload past n p in
+          let queue : unlanded the_link x past ≡ placed c ∷ map placed rest = sym wire.waiting ∙ ap (λ cs. map placed cs) q in
+          let sp : Spelling setup payload x past m next_to_land = lands-spelled setup payload x past n p h (placed c) (map placed rest) from l m queue e in
+          let up : is_up x sp.s past ≡ true = sender-up sp.s sp.sent (end_of setup payload x sp.s past).landed sp.sent_is (is_up x sp.s past) refl in
+          let world = played setup set.one payload past n p in
+          let sockets = world.world in
+          let socket = sockets.sockets sp.s in
+          let at = socket.stands in
+          let keeps : keeps_element (end_state (other x) sp.s past) ≡ true = ap (λ state. keeps_element state) (end-is setup socket.at sp.s past at (other x)) ∙ peer-keeps socket.at x (sym (at.up x) ∙ up) in
+          let there = plain-there setup payload regions (other x) past v st set.one n p lendings_are sp.s sp.offer sp.offered_is keeps in
+          let kept = kept-there setup payload regions (other x) past v st set.one n p lendings_are sp.s sp.offer sp.offered_is keeps in
+          let tell = tells w wire sp.s sp.offer sp.offered_is in
+          let under : cdc_under x (sp.offer).offer.token c.post ≡ Some m = subst (λ t. cdc_under x t c.post ≡ Some m) sp.token
+              (first-meant the_link x (unlanded the_link x past) (placed c) (map placed rest) from l m (unlanded-there the_link x past) queue e) in
+          let plain : c.plain ≡ (sp.sent).snapshot = first-plain x (sp.offer).offer.token c rest w.waiting m (to_land (end_of setup payload x sp.s past)) sp.sent q under tell.landing sp.sent_is in
+          let held : holder m.token v.records ≡ Some sp.s = ap (λ t. holder t v.records) sp.token ∙ holder-is setup payload regions (other x) past v st set.one n p lendings_are sp.s sp.offer sp.offered_is keeps in
+          let pipe = has-pipe setup payload sp.s past n p h in
+          let can = pipe.can_be in
+          let stands = kept.stands in
+          let works = st.works in
+          let all = works.records in
+          let size : kept.kept.end.size ≡ element_size setup = sized sp.s kept.kept kept.kept_is ∙ ap (λ t. t.size) all.terms in
+          let taker : Half = end_of setup payload (other x) sp.s past in
+          let comes : Arrives kept.kept.end m c.plain taker sp.sent = record {
+            lands = record {
+              stands = stands.end;
+              spelling = spelling-is kept.kept.end.size m sp.sent c.plain size sp.open_sent.0 sp.spells plain;
+              taken = λ b. subst (λ k. MayTake k (sp.sent).snapshot taker) (sym size) (lands-well (terms_of setup) x (part payload (group_on sp.s past) sp.s past) sp.sent can.feasible sp.sent_is b);
+            };
+            going = pipe.not_over (other x);
+          } in
+          record {
+            s = sp.s;
+            sent = sp.sent;
+            next = sp.sent_is;
+            message = message-of (unlanded the_link x past) (placed c) (map placed rest) from l m next_to_land (unlanded-there the_link x past) (unlanded-stand the_link x past) queue e sp;
+            plain_is = plain;
+            lands = record {
+              held = held;
+              lands = subst (λ k. ArrivesAt m c.plain sp.sent k (conn_at sp.s (records_of setup payload (other x) past))) (sym kept.kept_is)
+                  (subst (λ k. ArrivesAt m c.plain sp.sent (Some kept.kept) k) (sym there) comes);
+            };
+            may = record {
+              taker = λ t f. subst (λ r. MayArriveAt m c.plain (conn_at r v.records)) (the-same sp.s t (sym held ∙ f))
+                  (subst (λ k. MayArriveAt m c.plain k) (sym kept.kept_is) (record { end = taker; sent = sp.sent; arrives = comes }));
+              sound = λ t f. sound-at setup payload set past n p few (other x) regions v st t;
+            };
+            kept = ap (λ o. dropped_by o m.token) held;
+          }
+        where
+          the-same : (s t : ℕ) → Some s ≡ Some t → s ≡ t
+          the-same s t e = ap (λ (q : Option ℕ). unwrap_or q s) e
