@@ -31,6 +31,7 @@ pub mod FallenManagers
 pub mod Feasible
 pub mod FewUps
 pub mod Follows
+pub mod FreshEnds
 pub mod Groups
 pub mod Grown
 pub mod Growth
@@ -46,6 +47,8 @@ pub mod KeyedEnds
 pub mod KnownEntries
 pub mod Landed
 pub mod Landings
+pub mod LaterConfirms
+pub mod LaterManagers
 pub mod LawfulPasts
 pub mod LendingFacts
 pub mod Lendings
