@@ -1,5 +1,5 @@
 -- What would land or complete on a wire is the first of its queue in the history, of its side and on the one link.
-use Rattle.std.proofs.Common.{◌≡◌, ◌∙◌, ℕ, ◌==◌, ◌&&◌, Bool, true, false, List, [], ◌∷◌, map, refl, ap, sym, subst, true≢false, eqb-true}
+use Rattle.std.proofs.Common.{◌≡◌, ◌∙◌, ℕ, ◌==◌, ◌&&◌, Bool, true, false, List, [], ◌∷◌, map, filter, take, drop, cond, refl, ap, sym, subst, true≢false, eqb-true}
 use Rattle.std.specs.Prelude.{Option, Some, None, option_map, is_some}
 use Rattle.smc_num.specs.declared.Side.{Side}
 use Rattle.smc_num.specs.declared.Side.TheVariants.{A, B}
@@ -13,15 +13,15 @@ use Rattle.pipe_model.specs.declared.post.Placed.{Placed}
 use Rattle.pipe_model.specs.declared.entry.Entry.{Entry}
 use Rattle.pipe_model.specs.Words.{passes}
 use Rattle.pipe_model.specs.History.{post_at, sender, link_of_post}
-use Rattle.pipe_model.specs.Wires.{unlanded, uncompleted, landing, completing, is_on}
+use Rattle.pipe_model.specs.Wires.{unlanded, uncompleted, landing, completing, completes_later, is_on}
 use Rattle.rc_link.specs.declared.Carried.{Carried}
 use Rattle.rc_link.specs.Wire.{Queues, placed, landing as would_land, completing as would_complete}
 use Rattle.world_core.specs.OneLink.{the_link}
 use Rattle.world_core.specs.Played.{IsOneLink, IsPlayed}
-use Rattle.world_core.specs.WireSteps.{EachPlaced}
+use Rattle.world_core.specs.WireSteps.{EachPlaced, landing_now, completing_now}
 use Rattle.world_core.specs.Hosts.{IsWireAfter}
 use Rattle.world_core.proofs.Heads.{unlanded-there, uncompleted-there}
-use Rattle.world_core.proofs.Places.{unlanded-stand, uncompleted-stand, first-stands}
+use Rattle.world_core.proofs.Places.{placed-append, placed-drop, unlanded-stand, uncompleted-stand, first-stands}
 use Rattle.world_core.proofs.WireMoves.{lands-first, completes-first, same-landing, same-completing}
 
 -- the first of a queue
@@ -76,6 +76,22 @@ module _ (x : Side) (c : Carried) (there : is_on the_link x c.post ≡ true) whe
   never-clc from s link m e =
       true≢false (sym (and-right (same_side x from) false (ap (λ q. is_on the_link x q) (sym e) ∙ there)))
 
+-- an LLC message is done with as it lands
+later-tested : (cs : List Placed) → EachPlaced (λ c. completes_later c.post ≡ true) (filter (λ c. completes_later c.post) cs)
+later-tested [] = tt
+later-tested (c ∷ cs) = by (completes_later c.post) refl (later-tested cs)
+  where
+    by : (b : Bool) → completes_later c.post ≡ b → EachPlaced (λ d. completes_later d.post ≡ true) (filter (λ d. completes_later d.post) cs)
+        → EachPlaced (λ d. completes_later d.post ≡ true) (cond b (c ∷ filter (λ d. completes_later d.post) cs) (filter (λ d. completes_later d.post) cs))
+    by true e p = (e, p)
+    by false e p = p
+
+all-later : (link : LinkId) (x : Side) (past : List Entry) → EachPlaced (λ c. completes_later c.post ≡ true) (uncompleted link x past)
+all-later link x [] = tt
+all-later link x (e ∷ past) =
+    placed-append (λ c. completes_later c.post ≡ true) (drop (completing_now link x e past) (uncompleted link x past)) (filter (λ c. completes_later c.post) (take (landing_now link x e past) (unlanded link x past)))
+    (placed-drop (λ c. completes_later c.post ≡ true) (completing_now link x e past) (uncompleted link x past) (all-later link x past)) (later-tested (take (landing_now link x e past) (unlanded link x past)))
+
 -- a post of a history that has left, or is about to leave, one of the queues of a wire
 pub record IsNextOn (x : Side) (c : Carried) (past : List Entry) (queue : List Placed) (carried : List Carried) : Type 0 where
   pub rest : List Carried
@@ -105,6 +121,13 @@ module _ (setup : Setup) (payload : List ℕ) (x : Side) (past : List Entry) (w 
         let q : queue ≡ placed c ∷ map placed f.rest = sym is ∙ ap (λ (cs : List Carried). map placed cs) f.is in
         let t = subst (λ cs. EachPlaced (λ d. is_on the_link x d.post ≡ true) cs) q each in
         record { rest = f.rest; carried_is = f.is; queue_is = q; there = t.0; stands = stands (map placed f.rest) q }
+
+    -- it is no LLC message where it completes
+    pub completes-late : would_complete w ≡ Some c → completes_later c.post ≡ true
+    completes-late first =
+        let f = first-in c w.landed (sym (completes-first setup payload x past w wire) ∙ first) in
+        let t = subst (λ cs. EachPlaced (λ d. completes_later d.post ≡ true) cs) (sym wire.landed ∙ ap (λ (cs : List Carried). map placed cs) f.is) (all-later the_link x past) in
+        t.0
 
     pub next-lands : would_land w ≡ Some c → IsNextOn x c past (unlanded the_link x past) w.waiting
     next-lands first =
