@@ -18,11 +18,11 @@ use Rattle.pipe_model.specs.declared.entry.Entry.{Entry}
 use Rattle.pipe_model.specs.History.{next_number}
 use Rattle.pipe_model.specs.Wires.{completing, completed_told, completes_later}
 use Rattle.pipe_model.specs.Fallback.{written}
-use Rattle.pipe_model.specs.Ends.{Half}
+use Rattle.pipe_model.specs.Ends.{Half, completes}
 use Rattle.pipe_model.specs.Replies.{told}
 use Rattle.pipe_model.specs.Lawful.{posted}
 use Rattle.rc_link.specs.declared.Carried.{Carried}
-use Rattle.rc_link.specs.Wire.{Queues, placed, completing as would_complete, with_completed}
+use Rattle.rc_link.specs.Wire.{Queues, placed, completing as would_complete, with_completed, room_of}
 use Rattle.side_core.specs.Manager.{Manager, StandsFor}
 use Rattle.world_core.specs.declared.host.Host.{Host}
 use Rattle.world_core.specs.declared.host.Outflow.{Outflow}
@@ -34,10 +34,11 @@ use Rattle.world_core.specs.Managers.{manager_of, HasLendings}
 use Rattle.world_core.specs.Leaving.{HasCompleted, with_wire}
 use Rattle.world_core.specs.Landed.{buffer_of}
 use Rattle.world_core.specs.Steps.{entry_of}
-use Rattle.world_core.specs.Sending.{carried_from, moved, puts_all}
+use Rattle.world_core.specs.Sending.{carried_from, goes_on_wire, moved, puts_all, MaySendAll}
 use Rattle.world_core.specs.Hosts.{AreHosts, AreHostsAfter, IsHostAfter, IsWireAfter, IsPlayedBy, past_of, told_at, with_posts}
 use Rattle.world_core.proofs.HostsKept.{if-none, unposted, stands-on, hosts-after, played-now}
-use Rattle.world_core.proofs.LinkStubs.{Flowing, has-lendings, own-flows, same-flows, their-flows, wire-own, wire-theirs}
+use Rattle.world_core.proofs.LinkStubs.{Flowing, has-lendings, own-flows, same-flows, their-flows, wire-own, room-own, may-send}
+use Rattle.world_core.proofs.WiresAfter.{wire-theirs}
 use Rattle.world_core.proofs.CallEntries.{IsNothing}
 use Rattle.world_core.proofs.CompletionEntries.{completes-nothing, completes-write, completes-message}
 use Rattle.world_core.proofs.MessageEnds.{AreSized, Completing, completing as message-completing}
@@ -45,6 +46,7 @@ use Rattle.world_core.proofs.OnWire.{no-completing, completing-is, next-complete
 
 use Rattle.conn_end.specs.Kept.{Kept}
 use Rattle.pipe_model.specs.declared.sent.Sent.{Sent}
+use Rattle.side_core.specs.Acting.{acts_at, due_at}
 use Rattle.side_core.specs.Landing.{MayCompleteIn, CompletesIn}
 use Rattle.world_core.proofs.WireEntries.{IsDone}
 
@@ -82,6 +84,9 @@ module _ (setup : Setup) (payload : List ℕ) (past : List Entry) (heard : ℕ) 
   play : IsPlayed setup payload (entry_of setup payload past heard actor (Complete 1 x) ∷ past) (heard + handed (told setup payload past (Complete 1 x)))
   play = played-now setup payload past heard x h k before few (Complete 1 x) refl actor
 
+  lent-after : HasLendings setup payload (entry_of setup payload past heard actor (Complete 1 x) ∷ past)
+  lent-after = let set = before.set in has-lendings setup set.one payload (entry_of setup payload past heard actor (Complete 1 x) ∷ past) (heard + handed (told setup payload past (Complete 1 x))) play
+
   none-lands : (y : Side) → landing_now the_link y (entry_of setup payload past heard actor (Complete 1 x)) past ≡ 0
   none-lands y = if-none past
 
@@ -110,7 +115,7 @@ module _ (setup : Setup) (payload : List ℕ) (past : List Entry) (heard : ℕ) 
       let same = same-flows setup set.one payload Now past Heard play refl h.flows.items in record {
         side = stands;
         wire = subst (λ (w : Queues). IsWireAfter setup payload x (entry_of setup payload past heard actor (Complete 1 x) ∷ past) w) (sym wire_is)
-            (wire-own setup set.one payload Now past Heard play (buffer_of setup payload x (entry_of setup payload past heard actor (Complete 1 x) ∷ past) ∷ []) h.wire own.wire);
+            (wire-own setup set.one payload Now past Heard play lent-after x refl (buffer_of setup payload x (entry_of setup payload past heard actor (Complete 1 x) ∷ past) ∷ []) h.wire own.wire);
         sockets = ap (λ (fs : List Outflow). length fs) (flows_are ∙ same) ∙ own.sockets;
         flows = subst (λ (fs : List Outflow). Flowing payload setup.sockets x (entry_of setup payload past heard actor (Complete 1 x) ∷ past) fs) (sym flows_are)
             (own-flows setup set.one payload Now past Heard play h.flows.items own.sockets own.flows (λ s. not-written payload x x s (completed_told (completing 1 x past)) past));
@@ -249,3 +254,64 @@ module _ (at : Moment) (x : Side) (c : Carried) (h k : Host) (completed : HasCom
         completes = d.completes;
         done = λ regions actor. completes-message at.setup.now set.one at.payload.now (past_of at) at.heard hosts.played lendings regions x actor (placed c) is d.s d.sent d.message d.first;
       }
+
+  -- what its end makes of that, and posts
+  module _ (d : IsMessageDone at x c m h.core) (v : Manager Kept) (old posts : List Post) (none : old ≡ [])
+      (side : (n : Manager Half) (s : ℕ) (sent : Sent) → StandsFor h.core n → CompletesIn s m c.plain sent h.core n → StandsFor v (acts_at s (completes (Some sent)) n))
+      (due : (n : Manager Half) (s : ℕ) (sent : Sent) → StandsFor h.core n → CompletesIn s m c.plain sent h.core n → posts ≡ old ++ due_at s (completes (Some sent)) n) where
+    abbrev Was : Manager Half
+    Was = manager_of at.setup.now at.payload.now (buffer_of at.setup.now at.payload.now x (past_of at) ∷ []) x (past_of at)
+
+    abbrev First : Host
+    First = with_wire completed.before h
+
+    posts-now : posts ≡ posted at.setup.now at.payload.now (past_of at) at.heard (Complete 1 x)
+    posts-now =
+        let hosts = completed.hosts in
+        let own = hosts.own in
+        let q = d.done (buffer_of at.setup.now at.payload.now x (past_of at) ∷ []) 0 in
+        due Was d.s d.sent own.side d.completes ∙ (ap (λ (ps : List Post). ps ++ due_at d.s (completes (Some d.sent)) Was) none ∙ sym q.posts)
+
+    acted : StandsFor v (acts_at d.s (completes (Some d.sent)) Was)
+    acted = let hosts = completed.hosts in let own = hosts.own in side Was d.s d.sent own.side d.completes
+
+    left-wire : h.wire ≡ moved x (Complete 1 x) completed.before
+    left-wire = completed.wire ∙ (ap (λ o. with_completed o completed.before) (sym completed.first) ∙ sym (own-moved x completed.before))
+
+    pub may-be-sent : MaySendAll (length h.flows.items) v posts
+    may-be-sent =
+        let hosts = completed.hosts in
+        let own = hosts.own in
+        let set = hosts.set in
+        let q = d.done (buffer_of at.setup.now at.payload.now x (past_of at) ∷ []) 0 in
+        subst (λ n. MaySendAll n v posts) (sym own.sockets) (subst (λ (ps : List Post). MaySendAll at.setup.now.sockets v ps) (sym posts-now)
+        (may-send at.setup.now set.one at.payload.now (entry_of at.setup.now at.payload.now (past_of at) at.heard 0 (Complete 1 x)) (past_of at) (at.heard + handed (told at.setup.now at.payload.now (past_of at) (Complete 1 x)))
+        (play at.setup.now at.payload.now (past_of at) at.heard x First k hosts (few-before at x First k hosts few) 0)
+        (lent-after at.setup.now at.payload.now (past_of at) at.heard x First k hosts (few-before at x First k hosts few) 0) x refl (buffer_of at.setup.now at.payload.now x (past_of at) ∷ []) v
+        (subst (λ (n : Manager Half). StandsFor v n) (sym q.own) acted)))
+
+    pub has-room : length (filter goes_on_wire posts) ≤ room_of h.wire
+    has-room =
+        let hosts = completed.hosts in
+        let own = hosts.own in
+        let set = hosts.set in
+        subst (λ (ps : List Post). length (filter goes_on_wire ps) ≤ room_of h.wire) (sym posts-now)
+        (subst (λ (w : Queues). length (filter goes_on_wire (posted at.setup.now at.payload.now (past_of at) at.heard (Complete 1 x))) ≤ room_of w) (sym left-wire)
+        (room-own at.setup.now set.one at.payload.now (entry_of at.setup.now at.payload.now (past_of at) at.heard 0 (Complete 1 x)) (past_of at) (at.heard + handed (told at.setup.now at.payload.now (past_of at) (Complete 1 x)))
+        (play at.setup.now at.payload.now (past_of at) at.heard x First k hosts (few-before at x First k hosts few) 0) x refl completed.before own.wire))
+
+    pub message-completes : (g : Host) (entry : ℕ) → entry ≡ length at.history.now + 1 → g.core ≡ v → ((n : Manager Half) → StandsFor v n → g.wire ≡ with_posts (carried_from n entry 1 posts) h.wire)
+        → g.flows.items ≡ puts_all posts h.flows.items → IsPlayedBy at (Complete 1 x) (Completed c.at) posts x g k
+    message-completes g entry number core_is wire_is flows_are =
+        let hosts = completed.hosts in
+        let next : entry ≡ next_number (past_of at) = number ∙ ap (λ n. n + 1) (sym (length-reverse at.history.now)) in
+        is-played at x First k hosts few g (Completed c.at) posts (acts_at d.s (completes (Some d.sent)) Was) (told-now at x c h k completed few) posts-now
+        (λ actor. let q = d.done (buffer_of at.setup.now at.payload.now (other x) (past_of at) ∷ []) actor in q.theirs)
+        (λ actor. let q = d.done (buffer_of at.setup.now at.payload.now x (past_of at) ∷ []) actor in q.own)
+        (subst (λ u. StandsFor u (acts_at d.s (completes (Some d.sent)) Was)) (sym core_is) acted)
+        (λ n stands.
+          wire_is n (subst (λ u. StandsFor u n) core_is stands)
+          ∙ (ap (λ i. with_posts (carried_from n i 1 posts) h.wire) next
+          ∙ (ap (λ (ps : List Post). with_posts (carried_from n (next_number (past_of at)) 1 ps) h.wire) posts-now
+          ∙ ap (λ (w : Queues). with_posts (carried_from n (next_number (past_of at)) 1 (posted at.setup.now at.payload.now (past_of at) at.heard (Complete 1 x))) w) left-wire)))
+        (flows_are ∙ ap (λ (ps : List Post). puts_all ps h.flows.items) posts-now)

@@ -41,15 +41,12 @@ module _ (setup : Setup) (one : IsOneLink setup) (payload : List ℕ) (e : Entry
       → Flowing payload setup.sockets x past flows → Flowing payload setup.sockets x (e ∷ past) flows
   their-flows x a flows t r f = ?
 
-  pub wire-own : (regions : List Buffer) (w : Queues) → IsWireAfter setup payload (acting_side e.event) past w
-      → IsWireAfter setup payload (acting_side e.event) (e ∷ past) (with_posts (carried_from (manager_of setup payload regions (acting_side e.event) (e ∷ past)) (next_number past) 1 e.posts) (moved (acting_side e.event) e.event w))
-  wire-own regions w f = ?
+  pub wire-own : HasLendings setup payload (e ∷ past) → (x : Side) → acting_side e.event ≡ x → (regions : List Buffer) (w : Queues) → IsWireAfter setup payload x past w
+      → IsWireAfter setup payload x (e ∷ past) (with_posts (carried_from (manager_of setup payload regions x (e ∷ past)) (next_number past) 1 e.posts) (moved x e.event w))
+  wire-own l x a regions w f = ?
 
-  pub wire-theirs : (x : Side) → acting_side e.event ≡ other x → (w : Queues) → IsWireAfter setup payload x past w → IsWireAfter setup payload x (e ∷ past) (moved x e.event w)
-  wire-theirs x a w f = ?
+  pub room-own : (x : Side) → acting_side e.event ≡ x → (w : Queues) → IsWireAfter setup payload x past w → length (filter goes_on_wire e.posts) ≤ room_of (moved x e.event w)
+  room-own x a w f = ?
 
-  pub room-own : (w : Queues) → IsWireAfter setup payload (acting_side e.event) past w → length (filter goes_on_wire e.posts) ≤ room_of (moved (acting_side e.event) e.event w)
-  room-own w f = ?
-
-  pub may-send : (regions : List Buffer) (v : Manager Kept) → StandsFor v (manager_of setup payload regions (acting_side e.event) (e ∷ past)) → MaySendAll setup.sockets v e.posts
-  may-send regions v f = ?
+  pub may-send : HasLendings setup payload (e ∷ past) → (x : Side) → acting_side e.event ≡ x → (regions : List Buffer) (v : Manager Kept) → StandsFor v (manager_of setup payload regions x (e ∷ past)) → MaySendAll setup.sockets v e.posts
+  may-send l x a regions v f = ?
