@@ -3,6 +3,7 @@ pub mod AcceptManagers
 pub mod ActedEnds
 pub mod Agreed
 pub mod Agreement
+pub mod Aimers
 pub mod AskedFrom
 pub mod AskedPosts
 pub mod Batched
@@ -13,6 +14,7 @@ pub mod Carried
 pub mod Carrying
 pub mod ClcMoves
 pub mod CompletionEntries
+pub mod CompletionsAfter
 pub mod ConfirmEntries
 pub mod ConfirmManagers
 pub mod Confirmations
@@ -47,6 +49,7 @@ pub mod KeyedEnds
 pub mod KnownEntries
 pub mod Landed
 pub mod Landings
+pub mod LastSent
 pub mod LaterConfirms
 pub mod LaterManagers
 pub mod LawfulPasts
@@ -58,6 +61,8 @@ pub mod LinkFacts
 pub mod LinkManagers
 pub mod LinkMoves
 pub mod LinkRoom
+pub mod LinkStubs
+pub mod LinkTold
 pub mod Lists
 pub mod MessageEnds
 pub mod Moved
@@ -69,6 +74,7 @@ pub mod News
 pub mod NoResets
 pub mod Offers
 pub mod OnWay
+pub mod OnWire
 pub mod OneSender
 pub mod OpenEnds
 pub mod OpenManagers
@@ -82,8 +88,8 @@ pub mod Places
 pub mod PlainPosts
 pub mod PlainWires
 pub mod PlayedWorlds
-pub mod Quiet
 pub mod PostsFrom
+pub mod Quiet
 pub mod QuietEntries
 pub mod QuietEvents
 pub mod QuietManagers
@@ -120,7 +126,4 @@ pub mod Ways
 pub mod WireEntries
 pub mod WireKept
 pub mod WireMoves
-pub mod LinkTold
-pub mod LinkStubs
-pub mod CompletionsAfter
-pub mod OnWire
+pub mod WiresAfter
