@@ -15,6 +15,7 @@ pub mod Carrying
 pub mod ClcMoves
 pub mod CompletionEntries
 pub mod CompletionsAfter
+pub mod ClcTaken
 pub mod ConfirmEntries
 pub mod ConfirmManagers
 pub mod Confirmations
@@ -50,6 +51,7 @@ pub mod KnownEntries
 pub mod Landed
 pub mod Landings
 pub mod LastSent
+pub mod LastingLendings
 pub mod LaterConfirms
 pub mod LaterManagers
 pub mod LawfulPasts
