@@ -13,9 +13,9 @@ pub mod CallEntries
 pub mod Carried
 pub mod Carrying
 pub mod ClcMoves
+pub mod ClcTaken
 pub mod CompletionEntries
 pub mod CompletionsAfter
-pub mod ClcTaken
 pub mod ConfirmEntries
 pub mod ConfirmManagers
 pub mod Confirmations
@@ -49,6 +49,8 @@ pub mod KeptManagers
 pub mod KeyedEnds
 pub mod KnownEntries
 pub mod Landed
+pub mod LandedEnds
+pub mod LandingEntries
 pub mod Landings
 pub mod LastSent
 pub mod LastingLendings
