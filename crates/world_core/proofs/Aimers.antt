@@ -1,6 +1,6 @@
 -- The end whose messages carry the token of an offer is that of the offer's socket, once it is up.
-use Rattle.std.proofs.Common.{◌≡◌, ◌∙◌, ◌⊎◌, inl, inr, ℕ, ◌<◌, ◌≤◌, ◌==◌, Bool, true, false, if◌then◌else◌, List, [], ◌∷◌, length, refl, ap, sym, subst, true≢false, arith, eqb-true, eq-eqb}
-use Rattle.std.specs.Prelude.{Option, Some, None, is_some, cond, nat_lt, option_map, unwrap_or, slice_index_or}
+use Rattle.std.proofs.Common.{◌≡◌, ◌∙◌, ℕ, ◌<◌, ◌≤◌, ◌==◌, Bool, true, false, if◌then◌else◌, List, length, refl, ap, sym, true≢false, arith, eqb-true, eq-eqb}
+use Rattle.std.specs.Prelude.{Option, Some, None, cond, nat_lt, option_map, unwrap_or, slice_index_or}
 use Rattle.std.proofs.lemmas.Bool.{ltb-false, ltb-true}
 use Rattle.std.proofs.lemmas.List.{get_or_past}
 use Rattle.smc_num.specs.declared.Side.{Side}
@@ -9,7 +9,6 @@ use Rattle.clc_wire.specs.declared.offer.Offer.{Offer}
 use Rattle.cdc_wire.specs.declared.CdcMessage.{CdcMessage}
 use Rattle.smc_num.specs.declared.LinkId.{LinkId}
 use Rattle.rmb_region.specs.Regions.{Buffer}
-use Rattle.pipe_model.specs.declared.snapshot.Snapshot.{Snapshot}
 use Rattle.pipe_model.specs.declared.post.Post.TheVariants.{Cdc}
 use Rattle.pipe_model.specs.declared.setup.Setup.{Setup}
 use Rattle.pipe_model.specs.declared.entry.Entry.{Entry}

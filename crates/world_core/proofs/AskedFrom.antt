@@ -10,7 +10,6 @@ use Rattle.clc_wire.specs.declared.offer.Offer.{Offer}
 use Rattle.clc_wire.specs.declared.proposal.Proposal.{Proposal}
 use Rattle.clc_wire.specs.declared.message.ClcMessage.{ClcMessage}
 use Rattle.clc_wire.specs.declared.message.ClcMessage.TheVariants.{Proposal as ProposalMessage, Accept as AcceptMessage, Confirm as ConfirmMessage, Decline as DeclineMessage}
-use Rattle.llc_wire.specs.declared.LlcMessage.{LlcMessage}
 use Rattle.pipe_model.specs.declared.verdict.ClcStep.{ClcStep}
 use Rattle.pipe_model.specs.declared.verdict.ClcStep.TheVariants.{SendAccept, SendConfirm, AskKey, Wait, Decline, Fell, Ready, Lost, Wrong}
 use Rattle.pipe_model.specs.declared.verdict.Lacks.{Lacks}
@@ -30,7 +29,6 @@ use Rattle.pipe_model.specs.Flows.{is_asked, is_deleting}
 use Rattle.pipe_model.specs.Fabric.{act_of}
 use Rattle.pipe_model.specs.Wires.{landing, unlanded}
 use Rattle.pipe_model.specs.Fallback.{Front, NoMessage, Faulty, Whole, front, is_raw}
-use Rattle.pipe_model.specs.Messages.{pair_on}
 use Rattle.pipe_model.specs.Posts.{new_offer, clc_posts, ready_posts, first_link, fewest}
 use Rattle.pipe_model.specs.Replies.{clc_step}
 use Rattle.pipe_model.specs.Lawful.{front_posts, act_posts, asked}
@@ -43,7 +41,7 @@ use Rattle.world_core.specs.Sending.{acting_side}
 use Rattle.world_core.proofs.TakenMessages.{end-is}
 use Rattle.world_core.proofs.Landings.{lands-made, lands-unmade, acts-none, first-llc, no-llc-first}
 use Rattle.world_core.proofs.Confirmations.{request, answer, act-a, act-b}
-use Rattle.world_core.proofs.NewOffers.{HasSocketAt, NoOffers, OneOffer, asked-offers}
+use Rattle.world_core.proofs.NewOffers.{NoOffers, OneOffer, asked-offers}
 
 -- that a post comes from a side, and is about a known socket where it is a CLC message
 abbrev pub IsFrom : ℕ → Side → Post → Type 0

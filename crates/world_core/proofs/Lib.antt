@@ -11,6 +11,7 @@ pub mod Batches
 pub mod BoundKeys
 pub mod CallEntries
 pub mod Carried
+pub mod CarriedPosts
 pub mod Carrying
 pub mod ClcMoves
 pub mod ClcTaken
@@ -84,6 +85,7 @@ pub mod OpenEnds
 pub mod OpenManagers
 pub mod Openings
 pub mod Own
+pub mod OwnWires
 pub mod Parts
 pub mod PipePosts
 pub mod PipeSteps

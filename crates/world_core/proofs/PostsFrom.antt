@@ -9,7 +9,8 @@ use Rattle.smc_num.specs.declared.LinkId.{LinkId}
 use Rattle.smc_num.specs.Names.{other, same_side, same_link, head}
 use Rattle.smc_num.specs.Places.{rmb_at}
 use Rattle.cdc_wire.specs.declared.CdcMessage.{CdcMessage}
-use Rattle.clc_wire.specs.declared.offer.Offer.{Offer}
+use Rattle.clc_wire.specs.declared.message.ClcMessage.{ClcMessage}
+use Rattle.llc_wire.specs.declared.LlcMessage.{LlcMessage}
 use Rattle.pipe_model.specs.declared.setup.Setup.{Setup}
 use Rattle.pipe_model.specs.declared.event.Event.{Event}
 use Rattle.pipe_model.specs.declared.event.Event.TheVariants.{Open, Write as WriteEvent, Read, Clc as ClcEvent, Deliver, Complete}
@@ -19,19 +20,19 @@ use Rattle.pipe_model.specs.declared.post.Post.TheVariants.{Write, Cdc, Llc, Clc
 use Rattle.pipe_model.specs.declared.post.Placed.{Placed}
 use Rattle.pipe_model.specs.declared.entry.Entry.{Entry}
 use Rattle.pipe_model.specs.declared.sent.Sent.{Sent}
-use Rattle.pipe_model.specs.Words.{element_size, passes}
+use Rattle.pipe_model.specs.Words.{element_size}
 use Rattle.pipe_model.specs.Snapshot.{spelled, validation}
-use Rattle.pipe_model.specs.History.{Offered, offered, next_number, numbered}
+use Rattle.pipe_model.specs.History.{Offered, next_number, numbered}
 use Rattle.pipe_model.specs.Wires.{is_on, unlanded}
 use Rattle.pipe_model.specs.Calls.{Writes, Reads}
-use Rattle.pipe_model.specs.Pipe.{Item, Lands, Completes, posts_of}
-use Rattle.pipe_model.specs.Connections.{deeds, items, part, group_on, landed_at, completed_at}
+use Rattle.pipe_model.specs.Pipe.{Lands, Completes, posts_of}
+use Rattle.pipe_model.specs.Connections.{deeds, items, part, landed_at, completed_at}
 use Rattle.pipe_model.specs.Lending.{terms_of}
 use Rattle.pipe_model.specs.Keys.{last_bound}
-use Rattle.pipe_model.specs.Posts.{writes, offered_place, cdc_posts, sent_posts, connection_posts}
-use Rattle.pipe_model.specs.Lawful.{asked, draft}
+use Rattle.pipe_model.specs.Posts.{writes, offered_place, sent_posts, connection_posts}
+use Rattle.pipe_model.specs.Lawful.{draft}
 use Rattle.world_core.specs.Played.{IsOneLink, IsBuilt, IsMade, IsPlayed}
-use Rattle.world_core.specs.OneLink.{the_link, llc_of, llc_in, llc_waiting, posted_llc}
+use Rattle.world_core.specs.OneLink.{the_link, llc_of, llc_in, posted_llc}
 use Rattle.world_core.specs.Wired.{EachItem}
 use Rattle.world_core.specs.WireSteps.{EachPost, IsCdcOn, leaving}
 use Rattle.world_core.specs.Agreement.{HasOffers, PostsOne, PostsFew, GivesItems}
@@ -112,10 +113,10 @@ module _ (size : ℕ) (x : Side) (o : Offered) (past : List Entry) (m : Sent) wh
   abbrev Writes_of : List Post
   Writes_of = writes size x m.link key_of (offered_place o.offer) m.from m.snapshot.told
 
-  batch-each : (P : Post → Type 0) → ((k address len : ℕ) → P (Write x m.link k address len)) → ((message : CdcMessage) → P (Cdc x m.link message)) → EachPost P Batch
+  batch-each : (P : Post → Type 0) → ((k address len : ℕ) → P (Write x m.link k address len)) → ((message : CdcMessage) → message.token ≡ o.offer.token → P (Cdc x m.link message)) → EachPost P Batch
   batch-each P w c =
-      each-if P m.check (Cdc x m.link (validation size o.offer.token m.snapshot) ∷ []) (Writes_of ++ Cdc x m.link (spelled size o.offer.token m.snapshot) ∷ []) (c _, tt)
-      (each-both P Writes_of _ (each-if P (m.from == m.snapshot.told) [] _ tt (each-if P (nat_le (m.from % size + (m.snapshot.told - m.from)) size) _ _ (w _ _ _, tt) (w _ _ _, (w _ _ _, tt)))) (c _, tt))
+      each-if P m.check (Cdc x m.link (validation size o.offer.token m.snapshot) ∷ []) (Writes_of ++ Cdc x m.link (spelled size o.offer.token m.snapshot) ∷ []) (c _ refl, tt)
+      (each-both P Writes_of _ (each-if P (m.from == m.snapshot.told) [] _ tt (each-if P (nat_le (m.from % size + (m.snapshot.told - m.from)) size) _ _ (w _ _ _, tt) (w _ _ _, (w _ _ _, tt)))) (c _ refl, tt))
 
   last-on-by : (b : Bool) (ws : List Post) (p q : CdcMessage) → EachPost (IsCdcOn the_link) (if b then Cdc x m.link p ∷ [] else ws ++ Cdc x m.link q ∷ []) → m.link ≡ the_link
   last-on-by true ws p q e = e.0
@@ -255,7 +256,7 @@ module _ (setup : Setup) (one : IsOneLink setup) (payload : List ℕ) (e : Entry
       let on : (q.sent).link ≡ the_link = batch-on (element_size setup) q.x q.offer (D ∷ past) q.sent (subst (λ ps. EachPost (IsCdcOn the_link) ps) q.posts_are all-on) in
       let from : q.x ≡ acting_side e.event = of-acting q in
       subst (λ ps. EachPost (IsSentBy setup.sockets (acting_side e.event)) ps) (sym q.posts_are)
-      (batch-each (element_size setup) q.x q.offer (D ∷ past) q.sent (IsSentBy setup.sockets (acting_side e.event)) (λ k a l. (from, on)) (λ m. (from, on)))
+      (batch-each (element_size setup) q.x q.offer (D ∷ past) q.sent (IsSentBy setup.sockets (acting_side e.event)) (λ k a l. (from, on)) (λ m t. (from, on)))
 
   pipes-end : PostsFew setup payload D past → EndsWithCdc M
   pipes-end (inl f) = subst (λ ps. EndsWithCdc ps) (sym f) tt
@@ -292,3 +293,21 @@ module _ (setup : Setup) (one : IsOneLink setup) (payload : List ℕ) (e : Entry
     last = subst (λ ps. EndsWithCdc ps) (sym made.posts) (ends-control D.posts M control (pipes-end batch));
     few = subst (λ ps. length ps ≤ 6) (sym made.posts) (let l = length-append D.posts M in let f = a.few in let m = pipes-few batch in omega (arith, l, f, m));
   }
+
+  -- something holds of each of them
+  module _ (P : Post → Type 0) (of_clc : (from : Side) (s : ℕ) (link : Option LinkId) (m : ClcMessage) → s < setup.sockets → P (Clc from s link m)) (of_llc : (from : Side) (link : LinkId) (m : LlcMessage) → P (Llc from link m))
+      (of_write : (from : Side) (link : LinkId) (key address len : ℕ) → P (Write from link key address len))
+      (of_cdc : (q : PostsOne setup payload D past) (m : CdcMessage) → m.token ≡ (q.offer).offer.token → P (Cdc q.x (q.sent).link m)) where
+    of-control : (ps : List Post) → EachPost IsControl ps → EachPost (IsFrom setup.sockets (acting_side e.event)) ps → EachPost P ps
+    of-control [] c f = tt
+    of-control (Llc from link m ∷ ps) c f = (of_llc from link m, of-control ps c.1 f.1)
+    of-control (Clc from s link m ∷ ps) c f = let g = f.0 in (of_clc from s link m g.1, of-control ps c.1 f.1)
+    of-control (Write from link k address len ∷ ps) c f = absurd c.0
+    of-control (Cdc from link m ∷ ps) c f = absurd c.0
+
+    of-pipes : PostsFew setup payload D past → EachPost P M
+    of-pipes (inl f) = subst (λ ps. EachPost P ps) (sym f) tt
+    of-pipes (inr q) = subst (λ ps. EachPost P ps) (sym q.posts_are) (batch-each (element_size setup) q.x q.offer (D ∷ past) q.sent P (λ k a l. of_write q.x (q.sent).link k a l) (of_cdc q))
+
+    pub each-posted : EachPost P e.posts
+    each-posted = let a = few-asked in subst (λ ps. EachPost P ps) (sym made.posts) (each-both P D.posts M (of-control D.posts control a.from) (of-pipes batch))

@@ -1,6 +1,6 @@
 -- The queues of a wire are those of the history: the same would land and complete, and an event takes off both alike.
-use Rattle.std.proofs.Common.{◌≡◌, ◌∙◌, ◌⊎◌, inl, inr, ℕ, Bool, true, false, if◌then◌else◌, List, [], ◌∷◌, length, map, refl, ap, sym, subst, ◌&&◌, ◌||◌, true≢false, arith}
-use Rattle.std.specs.Prelude.{Option, Some, None, is_some, option_map, option_and_then, unwrap_or}
+use Rattle.std.proofs.Common.{◌≡◌, ◌∙◌, ◌⊎◌, inl, inr, ℕ, Bool, true, false, if◌then◌else◌, List, [], ◌∷◌, length, map, refl, ap, sym, subst, ◌||◌, true≢false, arith}
+use Rattle.std.specs.Prelude.{Option, Some, None, is_some, option_map, option_and_then}
 use Rattle.smc_num.specs.declared.Side.{Side}
 use Rattle.smc_num.specs.declared.Side.TheVariants.{A, B}
 use Rattle.smc_num.specs.declared.LinkId.{LinkId}
@@ -31,7 +31,7 @@ use Rattle.world_core.specs.Sending.{moved}
 use Rattle.world_core.proofs.Ways.{way}
 use Rattle.world_core.proofs.Shaken.{only-link}
 use Rattle.world_core.proofs.PlayedWorlds.{played}
-use Rattle.world_core.proofs.Unmade.{IsIdleLink, idle-link}
+use Rattle.world_core.proofs.Unmade.{idle-link}
 
 -- the first of what a wire carries
 head-placed : (cs : List Carried) → option_map placed (head cs) ≡ head (map placed cs)

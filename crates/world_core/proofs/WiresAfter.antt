@@ -1,49 +1,44 @@
 -- After each entry of a played history the wire of each side stands for it again, with the plain snapshots beside the messages.
-use Rattle.std.proofs.Common.{◌≡◌, ◌∙◌, ◌==◌, ◌⊎◌, inl, inr, ℕ, ◌+◌, ◌-◌, ◌*◌, ◌<◌, ◌≤◌, Bool, true, false, if◌then◌else◌, List, [], ◌∷◌, ◌++◌, length, drop, map, filter, filter_map, refl, ap, sym, subst, ◌&&◌, true≢false, arith, append-nil, length-append, eqb-true, suc}
-use Rattle.std.specs.Prelude.{Option, Some, None, IsSome, is_some, option_map, unwrap_or, cond}
+use Rattle.std.proofs.Common.{◌≡◌, ◌∙◌, ℕ, ◌+◌, false, List, [], ◌∷◌, ◌++◌, drop, map, filter, filter_map, refl, ap, sym, subst, ◌&&◌, true≢false, append-nil}
+use Rattle.std.specs.Prelude.{Option, Some, None, is_some, option_map, unwrap_or, cond}
 use Rattle.std.specs.List.{cons_option}
-use Rattle.std.proofs.lemmas.List.{length-map}
 use Rattle.smc_num.specs.declared.Side.{Side}
 use Rattle.smc_num.specs.declared.Side.TheVariants.{A, B}
-use Rattle.smc_num.specs.declared.LinkId.{LinkId}
 use Rattle.smc_num.specs.Names.{other, same_side, same_link, head}
 use Rattle.cdc_wire.specs.declared.CdcMessage.{CdcMessage}
-use Rattle.rmb_region.specs.Regions.{Buffer}
-use Rattle.pipe_model.specs.declared.snapshot.Snapshot.{Snapshot}
 use Rattle.pipe_model.specs.declared.sent.Sent.{Sent}
 use Rattle.pipe_model.specs.declared.setup.Setup.{Setup}
 use Rattle.pipe_model.specs.declared.post.Post.{Post}
 use Rattle.pipe_model.specs.declared.post.Post.TheVariants.{Write, Cdc, Llc, Clc}
-use Rattle.pipe_model.specs.declared.post.Placed.{Placed}
 use Rattle.pipe_model.specs.declared.entry.Entry.{Entry}
 use Rattle.pipe_model.specs.Words.{element_size}
 use Rattle.pipe_model.specs.History.{Offered, offered, next_number, numbered}
 use Rattle.pipe_model.specs.Wires.{is_on, unlanded, uncompleted}
-use Rattle.pipe_model.specs.Ends.{Half, to_land}
-use Rattle.pipe_model.specs.Pipe.{half, pipe, posts_of, sent_since}
+use Rattle.pipe_model.specs.Ends.{Half}
+use Rattle.pipe_model.specs.Pipe.{posts_of}
 use Rattle.pipe_model.specs.Parts.{IsMarked}
-use Rattle.pipe_model.specs.Connections.{is_up, group_on, items, part}
-use Rattle.pipe_model.specs.Lending.{terms_of, pipe_of}
+use Rattle.pipe_model.specs.Connections.{items, part}
+use Rattle.pipe_model.specs.Lending.{terms_of}
 use Rattle.pipe_model.proofs.Facts.{is-marked}
 use Rattle.rc_link.specs.declared.Carried.{Carried}
-use Rattle.rc_link.specs.Wire.{Queues, placed, empty, room_of, with_landed, with_completed, landed_with}
+use Rattle.rc_link.specs.Wire.{Queues, placed, empty, with_landed, with_completed, landed_with}
 use Rattle.world_core.specs.Played.{IsOneLink, IsMade, IsPlayed}
 use Rattle.world_core.specs.OneLink.{the_link}
-use Rattle.world_core.specs.Wired.{cdc_under, cdcs, message, returning, HasGone}
+use Rattle.world_core.specs.Wired.{cdc_under, cdcs, message, HasGone}
 use Rattle.world_core.specs.WireSteps.{EachPost}
 use Rattle.world_core.specs.Goings.{Going, Stayed, Lands_own, Lands_other, Completes_own, Completes_other}
-use Rattle.world_core.specs.Agreement.{IsOnlyLink, HasOffers, GoesOn, IsShaken, IsElse, GivesItems, Agree}
-use Rattle.world_core.specs.Hosts.{half_of, plain_under, plains, shots, TellsPlainly, places_of, IsWireAfter, with_posts}
+use Rattle.world_core.specs.Agreement.{IsOnlyLink, HasOffers, GoesOn, IsShaken, GivesItems, Agree}
+use Rattle.world_core.specs.Hosts.{half_of, plains, shots, TellsPlainly, places_of, IsWireAfter, with_posts}
 use Rattle.world_core.specs.Sending.{moved, acting_side}
 use Rattle.world_core.proofs.Handshaken.{shaken, has-offers, gives-items}
 use Rattle.world_core.proofs.Agreement.{agrees, new-token, new-end}
 use Rattle.world_core.proofs.Agreed.{gone, news-own, strange-step}
 use Rattle.world_core.proofs.Growth.{since-more}
-use Rattle.world_core.proofs.WireKept.{Fronts, stays-waiting, stays-landed, front-waits, lands-waiting, lands-landed, front-landed, completes-waiting, completes-landed}
+use Rattle.world_core.proofs.WireKept.{stays-waiting, stays-landed, front-waits, lands-waiting, lands-landed, front-landed, completes-waiting, completes-landed}
 use Rattle.world_core.proofs.TellsKept.{tells-stays, tells-lands, tells-completes}
 use Rattle.world_core.proofs.Unmade.{lands-nothing, returns-nothing}
 use Rattle.world_core.proofs.WireMoves.{Moving, Moves_none, Moves_landed, Moves_completed, moving, only-of}
-use Rattle.world_core.proofs.PostsFrom.{IsSentBy, ArePosts, posts-from}
+use Rattle.world_core.proofs.PostsFrom.{IsSentBy, posts-from}
 
 -- where no CDC message is under a token, no plain snapshot is
 none-plain : (x : Side) (token : ℕ) (ws : List Carried) → cdcs x token (map placed ws) ≡ [] → plains x token ws ≡ []
@@ -91,6 +86,12 @@ none-mapped : {X Y : Type 0} (f : X → Y) (xs : List X) → map f xs ≡ [] →
 none-mapped f [] e = refl
 none-mapped f (x ∷ xs) e = absurd (true≢false (ap (λ ys. is_some (head ys)) e))
 
+-- what a wire carries with posts, the plain snapshots apart
+pub record CarriesAfter (setup : Setup) (x : Side) (e : Entry) (past : List Entry) (cs : List Carried) (v : Queues) : Type 0 where
+  pub places : v.places ≡ places_of setup x
+  pub waiting : map placed (v.waiting ++ cs) ≡ unlanded the_link x (e ∷ past)
+  pub landed : map placed v.landed ≡ uncompleted the_link x (e ∷ past)
+
 module _ (setup : Setup) (one : IsOneLink setup) (payload : List ℕ) (e : Entry) (past : List Entry) (n : ℕ) (p : IsPlayed setup payload (e ∷ past) n) where
   made : IsMade setup payload past p.0 e
   made = p.1
@@ -120,7 +121,7 @@ module _ (setup : Setup) (one : IsOneLink setup) (payload : List ℕ) (e : Entry
   abbrev Posts_of : Side → ℕ → List Sent
   Posts_of x s = posts_of (terms_of setup) x (items payload 1 s e past) (part payload 1 s past)
 
-  goes : (x : Side) (s : ℕ) (o : Offered) → offered (other x) s past ≡ Some o → Going the_link x o.offer.token e past (Now x s) (Then x s)
+  pub goes : (x : Side) (s : ℕ) (o : Offered) → offered (other x) s past ≡ Some o → Going the_link x o.offer.token e past (Now x s) (Then x s)
   goes x s o f = gone setup payload e past p.0 p.0 made p.3 offers only gives.goes_on knows agree x s o f
 
   marked : (x : Side) (s : ℕ) → IsMarked (Now x s)
@@ -139,6 +140,23 @@ module _ (setup : Setup) (one : IsOneLink setup) (payload : List ℕ) (e : Entry
       by (Lands_own l m k g) = so _ _ g
       by (Completes_other l k g) = so _ _ g
       by (Completes_own l m k g r) = so _ _ g
+
+  -- the posts of a wire, with those of the entry
+  module _ (x : Side) (w : Queues) (wire : IsWireAfter setup payload x past w) (cs : List Carried) (are : map placed cs ≡ filter (λ c. is_on the_link x c.post) (numbered (next_number past) 1 e.posts)) where
+    carries-by : Moving x e past w → CarriesAfter setup x e past cs (moved x e.event w)
+    carries-by (Moves_none s m) = subst (λ v. CarriesAfter setup x e past cs v) (sym m)
+        (record { places = wire.places; waiting = stays-waiting the_link x e past cs are w wire.waiting wire.landed s; landed = stays-landed the_link x e past cs are w wire.waiting wire.landed s })
+    carries-by (Moves_landed l m) =
+        let f = front-waits the_link x e past cs are w wire.waiting wire.landed l in
+        subst (λ v. CarriesAfter setup x e past cs v) (sym (m ∙ ap (λ ds. with_landed (head ds) w) f.is))
+        (record { places = wire.places; waiting = lands-waiting the_link x e past cs are w wire.waiting wire.landed l; landed = lands-landed the_link x e past cs are w wire.waiting wire.landed l })
+    carries-by (Moves_completed l m) =
+        let f = front-landed the_link x e past cs are w wire.waiting wire.landed l in
+        subst (λ v. CarriesAfter setup x e past cs v) (sym (m ∙ ap (λ ds. with_completed (head ds) w) f.is))
+        (record { places = wire.places; waiting = completes-waiting the_link x e past cs are w wire.waiting wire.landed l; landed = completes-landed the_link x e past cs are w wire.waiting wire.landed l })
+
+    pub wire-carries : CarriesAfter setup x e past cs (moved x e.event w)
+    wire-carries = carries-by (moving setup one payload past p.0 p.3 p.0 e made x w wire)
 
   module _ (x : Side) (w : Queues) (wire : IsWireAfter setup payload x past w) (cs : List Carried) (are : map placed cs ≡ filter (λ c. is_on the_link x c.post) (numbered (next_number past) 1 e.posts))
       (plain : (s : ℕ) (o : Offered) → offered (other x) s past ≡ Some o → plains x o.offer.token cs ≡ shots (Posts_of x s)) where
