@@ -18,7 +18,7 @@ use Rattle.side_core.specs.Setups.{CanStart, CanBegin}
 use Rattle.side_core.specs.Desk.{Desk, lacks_of}
 use Rattle.side_core.specs.Manager.{Manager, hand_at, state_at}
 use Rattle.side_core.specs.Acting.{IsSoundAt}
-use Rattle.side_core.specs.Taking.{verdict_at, IsOffer, MayHear, MayTake}
+use Rattle.side_core.specs.Taking.{verdict_at, IsOffer, MayHear, MayLend, MayTake}
 use Rattle.side_core.specs.Fit.{Suits, HasElement, IsFit, beside, IsAwaiting, MayQuit, Allows}
 use Rattle.side_core.proofs.Counting.{above_none, free_count, some_free, key_known, alike_position}
 use Rattle.side_core.proofs.Verdicts.{Tells, told}
@@ -123,40 +123,40 @@ asks_no_key s message link paths m fit may e = by_message message may.hears (tel
 
 -- each step of the handshake has what it needs
 pub allowed : (s : ℕ) (message : ClcMessage) (link : LinkId) (paths : List Bool) (m : Manager Half) (r : Records Kept) (step : ClcStep) → IsFit m → MayTake s message link paths m → step ≡ verdict_at s message paths m → AllStand r m.records → IsSoundAt r.terms.size (conn_at s r) → Allows s step message link paths m.desk r
-allowed s message link paths m r step fit may e all sound = by_step step message may.hears (tells s message paths m step e)
+allowed s message link paths m r step fit may e all sound = by_step step message may.hears may.tokens (tells s message paths m step e)
   where
     begins : m.desk.group ≡ 0 → CanBegin m.desk
     begins none = record { none = none; begun = may.begun; serial = may.serial; made = may.made }
 
-    starts : 0 < m.records.spare → route_at s m.records ≡ None → CanStart s m.desk r
-    starts room none = can_start s m r fit all may.socket room may.tokens none
+    starts : m.records.tokens < length m.records.by_socket → 0 < m.records.spare → route_at s m.records ≡ None → CanStart s m.desk r
+    starts lend room none = can_start s m r fit all may.socket room lend none
 
     quits : MayQuit m.desk (route_at s r)
     quits = subst (λ o. MayQuit m.desk o) (sym (routes_same s r m.records all)) (may_quit s m.desk (route_at s m.records) (fit.elements s))
 
-    by_step : (x : ClcStep) (y : ClcMessage) → MayHear s y link m → Tells x (state_at s m) y (lacks_of paths m.desk) → Allows s x y link paths m.desk r
-    by_step (SendAccept true) (Proposal p) hears t = (starts (room_from m fit t.free) (none_before (state_at s m) (route_at s m.records) (fit.suits s) t.state), begins t.group, may.slots)
-    by_step (SendAccept false) (Proposal p) hears t = (starts (room_from m fit t.free) (none_before (state_at s m) (route_at s m.records) (fit.suits s) t.state), t.group, fit.live t.group t.first, fit.slot)
-    by_step (SendConfirm true) (Accept o) hears t = (
-      starts (fit.room (eq-eqb m.desk.group 0 t.group)) (none_answered (state_at s m) (route_at s m.records) (fit.suits s) t.state),
+    by_step : (x : ClcStep) (y : ClcMessage) → MayHear s y link m → MayLend y m → Tells x (state_at s m) y (lacks_of paths m.desk) → Allows s x y link paths m.desk r
+    by_step (SendAccept true) (Proposal p) hears lend t = (starts lend (room_from m fit t.free) (none_before (state_at s m) (route_at s m.records) (fit.suits s) t.state), begins t.group, may.slots)
+    by_step (SendAccept false) (Proposal p) hears lend t = (starts lend (room_from m fit t.free) (none_before (state_at s m) (route_at s m.records) (fit.suits s) t.state), t.group, fit.live t.group t.first, fit.slot)
+    by_step (SendConfirm true) (Accept o) hears lend t = (
+      starts lend (fit.room (eq-eqb m.desk.group 0 t.group)) (none_answered (state_at s m) (route_at s m.records) (fit.suits s) t.state),
       begins t.group,
       offer_beside o link m.desk r m all hears.0,
       hears.1 (and_from o.first (m.desk.group == 0) t.first (eq-eqb m.desk.group 0 t.group)),
     )
-    by_step (SendConfirm false) (Accept o) hears t = (
-      starts (room_from m fit t.free) (none_answered (state_at s m) (route_at s m.records) (fit.suits s) t.state),
+    by_step (SendConfirm false) (Accept o) hears lend t = (
+      starts lend (room_from m fit t.free) (none_answered (state_at s m) (route_at s m.records) (fit.suits s) t.state),
       named_group o link m hears.0 t.group,
       offer_beside o link m.desk r m all hears.0,
     )
-    by_step Ready (Confirm o) hears t = (
+    by_step Ready (Confirm o) hears lend t = (
       subst (λ x. IsAwaiting link x) (sym (routes_same s r m.records all)) (awaits_on link (route_at s m.records) hears.1 (subst (λ x. Suits x (route_at s m.records)) t (fit.suits s))),
       offer_beside o link m.desk r m all hears.0,
       sound,
     )
-    by_step (Decline lack) y hears t = quits
-    by_step Fell y hears t = quits
-    by_step Lost y hears t = quits
-    by_step (Wrong kind) y hears t = quits
-    by_step AskKey y hears t = tt
-    by_step (Wait hold) y hears t = tt
-    by_step x y hears t = absurd t
+    by_step (Decline lack) y hears lend t = quits
+    by_step Fell y hears lend t = quits
+    by_step Lost y hears lend t = quits
+    by_step (Wrong kind) y hears lend t = quits
+    by_step AskKey y hears lend t = tt
+    by_step (Wait hold) y hears lend t = tt
+    by_step x y hears lend t = absurd t

@@ -17,7 +17,7 @@ use Rattle.side_core.specs.Desk.{Desk, made_on}
 use Rattle.side_core.specs.Manager.{Manager, StandsFor, no_hand, state_at}
 use Rattle.side_core.specs.Acting.{IsSoundAt, IsRising}
 use Rattle.pipe_model.specs.Replies.{expects}
-use Rattle.side_core.specs.Taking.{MayTake, MayHear, IsOffer, IsNext}
+use Rattle.side_core.specs.Taking.{MayTake, MayLend, MayHear, IsOffer, IsNext}
 use Rattle.side_core.specs.Fit.{Suits, HasElement, IsManager}
 use Rattle.side_core.proofs.Allowed.{routes_same, aimers_same}
 
@@ -106,13 +106,19 @@ hear_plain s (Accept o) link v m stands hears = (offer_plain o link v m stands h
 hear_plain s (Confirm o) link v m stands hears = (offer_plain o link v m stands hears.0, ap (option_map (λ (r : Route). r.link)) (sym (same_route s v m stands)) ∙ hears.1)
 hear_plain s (Decline r) link v m stands hears = tt
 
+lend_plain : (message : ClcMessage) (v : Manager Kept) (m : Manager Half) → StandsFor v m → MayLend message v → MayLend message m
+lend_plain (Proposal p) v m stands lend = subst (λ n. n < length m.records.by_socket) stands.works.records.tokens (subst (λ n. v.records.tokens < n) stands.works.records.sockets lend)
+lend_plain (Accept o) v m stands lend = subst (λ n. n < length m.records.by_socket) stands.works.records.tokens (subst (λ n. v.records.tokens < n) stands.works.records.sockets lend)
+lend_plain (Confirm o) v m stands lend = tt
+lend_plain (Decline r) v m stands lend = tt
+
 pub take_plain : (s : ℕ) (message : ClcMessage) (link : LinkId) (paths : List Bool) (v : Manager Kept) (m : Manager Half) → StandsFor v m → MayTake s message link paths v → MayTake s message link paths m
 take_plain s message link paths v m stands may = record {
   socket = subst (λ (hands : List Hand). s < length hands) stands.hands may.socket;
   waits = ap expects (sym (same_state s v m stands)) ∙ may.waits;
   hears = hear_plain s message link v m stands may.hears;
   slots = may.slots;
-  tokens = subst (λ n. n < length m.records.by_socket) stands.works.records.tokens (subst (λ n. v.records.tokens < n) stands.works.records.sockets may.tokens);
+  tokens = lend_plain message v m stands may.tokens;
   begun = subst (λ (d : Desk). d.begun < 2 ^ 31) stands.works.desk may.begun;
   serial = subst (λ (d : Desk). d.serial < 2 ^ 20) stands.works.desk may.serial;
   made = subst (λ (d : Desk). made_on 1 d < 2 ^ 31) stands.works.desk may.made;

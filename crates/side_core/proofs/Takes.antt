@@ -14,7 +14,7 @@ use Rattle.clc_handshake.specs.Stages.{Hand, after_step, after_confirm}
 use Rattle.side_core.specs.Records.{Connection, conn_at, route_at}
 use Rattle.side_core.specs.Desk.{Desk, lacks_of, first_link, next_place, begins_group, makes_link, learns_offer}
 use Rattle.side_core.specs.Manager.{Manager, hand_at, state_at, with_hand}
-use Rattle.side_core.specs.Taking.{verdict_at, offered_link, with_desk, starts, hears, rises_at, quits, quits_from, accepts, first_confirms, later_confirms, is_ready, by_verdict, takes_message, MayHear, MayTake, IsOffer}
+use Rattle.side_core.specs.Taking.{verdict_at, offered_link, with_desk, starts, hears, rises_at, quits, quits_from, accepts, first_confirms, later_confirms, is_ready, by_verdict, takes_message, MayHear, MayLend, MayTake, IsOffer}
 use Rattle.side_core.specs.Fit.{Suits, IsFit}
 use Rattle.side_core.proofs.Verdicts.{Tells}
 use Rattle.side_core.proofs.Allowed.{tells, named_group, room_from}
@@ -104,18 +104,18 @@ first_named paths d = ne_eqb (d.begun + 1) 0 (λ e. omega (arith, e))
 
 -- what fits, fits in a manager that has taken a message
 pub takes_fit : (s : ℕ) (message : ClcMessage) (link : LinkId) (paths : List Bool) (m : Manager Half) → IsFit m → MayTake s message link paths m → IsFit (takes_message s message link paths m)
-takes_fit s message link paths m fit may = by_step (verdict_at s message paths m) message may.hears (tells s message paths m (verdict_at s message paths m) refl)
+takes_fit s message link paths m fit may = by_step (verdict_at s message paths m) message may.hears may.tokens (tells s message paths m (verdict_at s message paths m) refl)
   where
-    by_step : (x : ClcStep) (y : ClcMessage) → MayHear s y link m → Tells x (state_at s m) y (lacks_of paths m.desk) → IsFit (with_hand s (record (hand_at s m) { state = after_step x y (state_at s m) }) (by_verdict s y link paths m x))
-    by_step (SendAccept true) (Proposal p) hears t = first_accepts_fit s m fit may.socket (hand_at s m).raw (first_link paths m.desk) t.group (first_named paths m.desk) may.tokens
-    by_step (SendAccept false) (Proposal p) hears t = later_accepts_fit s m fit may.socket (hand_at s m).raw (offered_link false paths m) t.group (room_from m fit t.free) may.tokens
-    by_step (SendConfirm true) (Accept o) hears t = first_confirms_fit s m fit may.socket (hand_at s m).raw link o hears.0 t.group may.tokens
-    by_step (SendConfirm false) (Accept o) hears t = later_confirms_fit s m fit may.socket (hand_at s m).raw link o hears.0 (named_group o link m hears.0 t.group) (room_from m fit t.free) may.tokens
-    by_step Ready (Confirm o) hears t = ready_fit s m fit may.socket (hand_at s m).raw link o hears.0 t
-    by_step (Decline lack) y hears t = quits_fit s m fit may.socket _ tt
-    by_step Fell y hears t = quits_fit s m fit may.socket _ tt
-    by_step Lost y hears t = quits_fit s m fit may.socket _ tt
-    by_step (Wrong kind) y hears t = quits_fit s m fit may.socket _ tt
-    by_step AskKey y hears t = waits_fit s m fit may.socket
-    by_step (Wait hold) y hears t = waits_fit s m fit may.socket
-    by_step x y hears t = absurd t
+    by_step : (x : ClcStep) (y : ClcMessage) → MayHear s y link m → MayLend y m → Tells x (state_at s m) y (lacks_of paths m.desk) → IsFit (with_hand s (record (hand_at s m) { state = after_step x y (state_at s m) }) (by_verdict s y link paths m x))
+    by_step (SendAccept true) (Proposal p) hears lend t = first_accepts_fit s m fit may.socket (hand_at s m).raw (first_link paths m.desk) t.group (first_named paths m.desk) lend
+    by_step (SendAccept false) (Proposal p) hears lend t = later_accepts_fit s m fit may.socket (hand_at s m).raw (offered_link false paths m) t.group (room_from m fit t.free) lend
+    by_step (SendConfirm true) (Accept o) hears lend t = first_confirms_fit s m fit may.socket (hand_at s m).raw link o hears.0 t.group lend
+    by_step (SendConfirm false) (Accept o) hears lend t = later_confirms_fit s m fit may.socket (hand_at s m).raw link o hears.0 (named_group o link m hears.0 t.group) (room_from m fit t.free) lend
+    by_step Ready (Confirm o) hears lend t = ready_fit s m fit may.socket (hand_at s m).raw link o hears.0 t
+    by_step (Decline lack) y hears lend t = quits_fit s m fit may.socket _ tt
+    by_step Fell y hears lend t = quits_fit s m fit may.socket _ tt
+    by_step Lost y hears lend t = quits_fit s m fit may.socket _ tt
+    by_step (Wrong kind) y hears lend t = quits_fit s m fit may.socket _ tt
+    by_step AskKey y hears lend t = waits_fit s m fit may.socket
+    by_step (Wait hold) y hears lend t = waits_fit s m fit may.socket
+    by_step x y hears lend t = absurd t

@@ -6,7 +6,7 @@ use Rattle.smc_num.specs.Links.{live_links}
 use Rattle.smc_num.specs.Places.{rmb_at}
 use Rattle.clc_wire.specs.declared.offer.Offer.{Offer}
 use Rattle.clc_wire.specs.declared.message.ClcMessage.{ClcMessage}
-use Rattle.clc_wire.specs.declared.message.ClcMessage.TheVariants.{Accept, Confirm, Decline as DeclineMessage}
+use Rattle.clc_wire.specs.declared.message.ClcMessage.TheVariants.{Proposal, Accept, Confirm, Decline as DeclineMessage}
 use Rattle.pipe_model.specs.declared.reply.Reply.{Reply}
 use Rattle.pipe_model.specs.declared.post.Post.{Post}
 use Rattle.pipe_model.specs.declared.post.Post.TheVariants.{Llc, Clc}
@@ -170,13 +170,19 @@ MayHear s (Accept o) link m = IsOffer o link m × IsNext o link m
 MayHear s (Confirm o) link m = IsOffer o link m × (option_map (λ (r : Route). r.link) (route_at s m.records) ≡ Some link)
 MayHear s message link m = Unit {0}
 
+-- that a side has a token left where a message may make it lend an element
+abbrev pub MayLend : {E : Type 0} → ClcMessage → Manager E → Type 0
+MayLend (Proposal p) m = m.records.tokens < length m.records.by_socket
+MayLend (Accept o) m = m.records.tokens < length m.records.by_socket
+MayLend message m = Unit {0}
+
 -- what a caller must see to: the end waits for a CLC message, which may come to it, and the counts are far from their ends
 pub record MayTake {E : Type 0} (s : ℕ) (message : ClcMessage) (link : LinkId) (paths : List Bool) (m : Manager E) : Type 0 where
   pub socket : s < length m.hands
   pub waits : expects (state_at s m) ≡ true
   pub hears : MayHear s message link m
   pub slots : length paths ≡ 1
-  pub tokens : m.records.tokens < length m.records.by_socket
+  pub tokens : MayLend message m
   pub begun : m.desk.begun < 2 ^ 31
   pub serial : m.desk.serial < 2 ^ 20
   pub made : made_on 1 m.desk < 2 ^ 31

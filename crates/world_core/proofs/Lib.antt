@@ -5,6 +5,7 @@ pub mod Agreed
 pub mod Agreement
 pub mod Aimers
 pub mod AskedFrom
+pub mod AllLendings
 pub mod AskedPosts
 pub mod Batched
 pub mod Batches
