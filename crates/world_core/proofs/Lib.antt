@@ -18,6 +18,7 @@ pub mod ClcMoves
 pub mod ClcTaken
 pub mod CompletionEntries
 pub mod CompletionsAfter
+pub mod ConfirmEnds
 pub mod ConfirmEntries
 pub mod ConfirmManagers
 pub mod Confirmations
@@ -35,8 +36,10 @@ pub mod EstablishedManagers
 pub mod FallenManagers
 pub mod Feasible
 pub mod FewUps
+pub mod FirstOn
 pub mod Follows
 pub mod FreshEnds
+pub mod GoingUp
 pub mod Groups
 pub mod Grown
 pub mod Growth
@@ -134,3 +137,4 @@ pub mod WireEntries
 pub mod WireKept
 pub mod WireMoves
 pub mod WiresAfter
+pub mod WriteEnds
