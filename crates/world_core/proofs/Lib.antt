@@ -43,11 +43,13 @@ pub mod GoingUp
 pub mod Groups
 pub mod Grown
 pub mod Growth
+pub mod HandStubs
 pub mod Handshaken
 pub mod Handshakes
 pub mod Heads
 pub mod HomeLandings
 pub mod HostsKept
+pub mod HostsOn
 pub mod Idle
 pub mod InHistory
 pub mod KeptManagers
@@ -88,6 +90,7 @@ pub mod OneSender
 pub mod OpenEnds
 pub mod OpenManagers
 pub mod Openings
+pub mod OpeningsAfter
 pub mod Own
 pub mod OwnWires
 pub mod Parts
@@ -112,6 +115,7 @@ pub mod RisenPosts
 pub mod Rising
 pub mod SameManagers
 pub mod Senders
+pub mod Sends
 pub mod SentBatches
 pub mod Shaken
 pub mod SmallEnds

@@ -1,9 +1,9 @@
 -- The two hosts of a world of one link, and what is true of them after a history.
 -- A reader learns here, subject by subject, for what of the history a manager, its wire and its streams stand, and what an event does to both hosts.
-use Rattle.std.specs.Prelude.{◌≡◌, ◌≤◌, ◌<◌, ℕ, ◌+◌, ◌*◌, ◌^◌, false, List, [], ◌∷◌, ◌++◌, length, map, filter, filter_map, reverse, slice_index_or, Option, Some, None, IfSome, option_map}
+use Rattle.std.specs.Prelude.{◌≡◌, ◌≤◌, ◌<◌, ℕ, ◌+◌, ◌*◌, ◌^◌, false, List, [], ◌∷◌, ◌++◌, length, map, filter, filter_map, reverse, Option, Some, None, IfSome, option_map}
 use Rattle.smc_num.specs.declared.Side.{Side}
 use Rattle.smc_num.specs.declared.Side.TheVariants.{A}
-use Rattle.smc_num.specs.Names.{at_side, other, head}
+use Rattle.smc_num.specs.Names.{other, head}
 use Rattle.pipe_model.specs.declared.snapshot.Snapshot.{Snapshot}
 use Rattle.pipe_model.specs.declared.sent.Sent.{Sent}
 use Rattle.pipe_model.specs.declared.setup.Setup.{Setup}

@@ -2,6 +2,7 @@ pub mod Agreement
 pub mod Directed
 pub mod Due
 pub mod Goings
+pub mod Handing
 pub mod Heard
 pub mod Hosts
 pub mod Lacking

@@ -1,25 +1,25 @@
 -- How the posts of an entry leave a host: CLC messages into the streams of their sockets, all others on the wire of the link.
 -- A reader learns here what a host keeps of them, and what leaves a wire or a stream with an event.
-use Rattle.std.specs.Prelude.{◌≡◌, ◌<◌, ℕ, ◌+◌, Bool, true, false, if◌then◌else◌, List, [], ◌∷◌, ◌++◌, take, drop, length, filter, slice_index_or, slice_set, Option, Some, None, IsSome, option_map, unwrap_or}
+use Rattle.std.specs.Prelude.{◌<◌, ℕ, ◌+◌, Bool, true, false, if◌then◌else◌, List, [], ◌∷◌, ◌++◌, take, drop, slice_index_or, slice_set, Option, Some, None, IsSome, option_map, unwrap_or}
 use Rattle.smc_num.specs.declared.Side.{Side}
 use Rattle.smc_num.specs.declared.Side.TheVariants.{A}
 use Rattle.smc_num.specs.Names.{same_side, other}
 use Rattle.smc_num.specs.declared.LinkId.{LinkId}
 use Rattle.clc_wire.specs.declared.message.ClcMessage.{ClcMessage}
-use Rattle.clc_wire.specs.Clc.{clc_bytes, clc_length}
+use Rattle.clc_wire.specs.Clc.{Fits, clc_bytes, clc_length}
 use Rattle.pipe_model.specs.declared.snapshot.Snapshot.{Snapshot}
 use Rattle.pipe_model.specs.declared.event.Event.{Event}
 use Rattle.pipe_model.specs.declared.event.Event.TheVariants.{Write as WriteEvent, Read, Clc as ClcEvent, Deliver, Complete}
 use Rattle.pipe_model.specs.declared.post.Post.{Post}
-use Rattle.pipe_model.specs.declared.post.Post.TheVariants.{Write, Cdc, Llc, Clc}
+use Rattle.pipe_model.specs.declared.post.Post.TheVariants.{Cdc, Clc}
+use Rattle.pipe_model.specs.declared.post.PostRef.{PostRef}
 use Rattle.pipe_model.specs.Ends.{Half}
 use Rattle.tcp_pipe.specs.Streams.{free}
 use Rattle.rc_link.specs.declared.Carried.{Carried}
-use Rattle.rc_link.specs.Wire.{Queues, landing, completing, with_landed, with_completed}
+use Rattle.rc_link.specs.Wire.{Queues, with_post, landing, completing, with_landed, with_completed}
 use Rattle.conn_end.specs.Kept.{Kept}
 use Rattle.side_core.specs.Records.{aimer, half_at}
 use Rattle.side_core.specs.Manager.{Manager}
-use Rattle.world_core.specs.declared.host.Untaken.{Untaken}
 use Rattle.world_core.specs.declared.host.Outflow.{Outflow}
 
 -- a snapshot that tells nothing
@@ -42,6 +42,10 @@ carried_from m entry first [] = []
 carried_from m entry first (post ∷ posts) =
     if goes_on_wire post then record { at = record { entry = entry; post = first }; post = post; plain = plain_of m post } ∷ carried_from m entry (first + 1) posts
     else carried_from m entry (first + 1) posts
+
+-- the wire of a host after it has sent one post of the history
+abbrev pub posts_one : Manager Half → PostRef → Post → Queues → Queues
+posts_one m at post w = if goes_on_wire post then with_post (record { at = at; post = post; plain = plain_of m post }) w else w
 
 -- a socket on which nothing has flowed
 abbrev pub still : Outflow
@@ -83,10 +87,10 @@ acting_side (Deliver slot dir) = other dir
 acting_side (Complete slot dir) = dir
 acting_side _ = A
 
--- that a post may be sent: the token of a CDC message names an end, and a CLC message a socket that there is
+-- that a post may be sent: the token of a CDC message names an end, and a CLC message is for a socket that there is, and fits
 abbrev pub MaySend : ℕ → Manager Kept → Post → Type 0
 MaySend sockets v (Cdc from link message) = IsSome (aimer message.token v.records)
-MaySend sockets v (Clc from s link message) = s < sockets
+MaySend sockets v (Clc from s link message) = (s < sockets) × Fits message
 MaySend sockets v _ = Unit {0}
 
 -- that each of them may

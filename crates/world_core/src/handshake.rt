@@ -1,15 +1,26 @@
 //! A socket is opened, and its hosts take each other's CLC messages.
-ghost use Rattle.std.specs.Prelude.{◌≡◌, ◌<◌, ◌^◌, length, []};
+ghost use Rattle.std.specs.Prelude.{◌≡◌, ◌<◌, ◌≤◌, ◌++◌, ◌^◌, ◌+◌, length, filter, true, [], Some};
 ghost use Rattle.smc_num.specs.declared.Side.TheVariants.{A};
 ghost use Rattle.smc_num.specs.Names.{other};
+ghost use Rattle.clc_wire.specs.Clc.{clc_length};
 ghost use Rattle.pipe_model.specs.declared.event.Event.TheVariants.{Open, Clc};
+ghost use Rattle.pipe_model.specs.Connections.{NoEnd};
+ghost use Rattle.pipe_model.specs.Ends.{Half};
+ghost use Rattle.rc_link.specs.Wire.{room_of};
+ghost use Rattle.side_core.specs.Landing.{falls_at, opens_at, opening_posts};
+ghost use Rattle.side_core.specs.Manager.{Manager, StandsFor, state_at};
+ghost use Rattle.side_core.specs.Taking.{with_desk};
 ghost use Rattle.world_core.specs.Steps.{does_something};
-ghost use Rattle.world_core.specs.Hosts.{AreHosts, IsPlayedBy, told_at};
+ghost use Rattle.world_core.specs.Sending.{carried_from, goes_on_wire, puts_all, MaySendAll};
+ghost use Rattle.world_core.specs.Handing.{due_on, has_end, hands_over, link_made_by, makes_at, MayMake};
+ghost use Rattle.world_core.specs.Hosts.{AreHosts, IsPlayedBy, told_at, with_posts};
 
-use crate::host::Host;
+use crate::host::{Host, Untaken};
 use crate::moment::Moment;
 use arrayvec::ArrayVec;
-use pipe_model::{Post, Reply, Side};
+use clc_handshake::EndState;
+use pipe_model::{ClcMessage, Lack, LinkId, Post, Reply, SentKind, Side};
+use side_core::SideCore;
 
 /// A socket is opened: the client proposes, or, where a side is not capable, both ends fall back.
 pub fn open(
@@ -25,7 +36,27 @@ pub fn open(
     requires none { posts.old.items ≡ [] }
     ensures { IsPlayedBy moment.entry (Open s) result posts.new.items A client.new server.new }
 {
-    unreachable!()
+    if is_opened(&client.core, s) {
+        return Reply::NameUsed;
+    }
+    let [a, b] = moment.setup.capable;
+    if a && b {
+        client.core.open(s, false, posts);
+        server.core.open(s, false, posts);
+        client.send(moment.history.len() as u32 + 1, posts.as_slice());
+        Reply::Opened
+    } else {
+        client.core.fall_back(s);
+        server.core.fall_back(s);
+        Reply::Declined(Lack::NotCapable { a, b })
+    }
+}
+
+/// Whether the socket of an end was opened.
+fn is_opened(core: &SideCore, s: u32) -> bool
+    ensures { result ≡ has_end (state_at s core.now) }
+{
+    !matches!(core.end_state(s), EndState::Absent)
 }
 
 /// Whether the peer of a side would take its next CLC message on a socket: there is one, and it would not
@@ -35,7 +66,21 @@ pub fn would_take(own: &Host, theirs: &Host, moment: Moment<'_>, s: u32, dir: Si
     requires socket { s < moment.setup.now.sockets }
     ensures { result ≡ does_something (told_at moment.entry (Clc s dir)) }
 {
-    unreachable!()
+    match due(own, theirs, s) {
+        Some(next) => !own.core.would_hold(s, &next.message, &[true]),
+        None => false,
+    }
+}
+
+/// The CLC message that the end of a socket is to take.
+fn due(own: &Host, theirs: &Host, s: u32) -> Option<Untaken>
+    requires { s < length theirs.now.flows.items }
+    ensures { result ≡ due_on s own.now.core theirs.now.flows.items }
+{
+    match own.core.end_state(s) {
+        EndState::Clc => theirs.flows[s as usize].next,
+        _ => None,
+    }
 }
 
 /// The peer of a side takes its next CLC message on a socket, if there is one. A message that is held stays.
@@ -53,5 +98,66 @@ pub fn take(
     requires none { posts.old.items ≡ [] }
     ensures { IsPlayedBy moment.entry (Clc s dir) result posts.new.items (other dir) own.new theirs.new }
 {
-    unreachable!()
+    match due(own, theirs, s) {
+        Some(next) => take_next(own, theirs, moment, s, dir, &next, posts),
+        None => Reply::Idle,
+    }
+}
+
+/// The peer of a side takes this CLC message.
+fn take_next(
+    own: &mut Host,
+    theirs: &mut Host,
+    moment: Moment<'_>,
+    s: u32,
+    dir: Side,
+    next: &Untaken,
+    posts: &mut ArrayVec<Post, 6>,
+) -> Reply
+    requires hosts { AreHosts moment (other dir) own.old theirs.old }
+    requires few { length moment.history.now < 2 ^ 18 }
+    requires socket { s < moment.setup.now.sockets }
+    requires due { due_on s own.old.core theirs.old.flows.items ≡ Some next.now }
+    requires none { posts.old.items ≡ [] }
+    ensures { IsPlayedBy moment.entry (Clc s dir) result posts.new.items (other dir) own.new theirs.new }
+{
+    let reply = own
+        .core
+        .take_clc(s, &next.message, next.link, &[true], posts);
+    if let Reply::Held(_) = reply {
+        return reply;
+    }
+    hand_over(theirs, s, next, reply);
+    own.send(moment.history.len() as u32 + 1, posts.as_slice());
+    reply
+}
+
+/// A message leaves the stream of its sender, at which the link is made too where the client has confirmed
+/// in first contact.
+fn hand_over(host: &mut Host, s: u32, next: &Untaken, reply: Reply)
+    requires socket { s < length host.old.flows.items }
+    requires made { MayMake (link_made_by reply next.now.link) host.old.core.desk }
+    ensures core { (m : Manager Half) → StandsFor host.old.core m → StandsFor host.new.core (with_desk (makes_at (link_made_by reply next.now.link)) m) }
+    ensures wire { host.new.wire ≡ host.old.wire }
+    ensures flows { host.new.flows.items ≡ hands_over s next.now.message host.old.flows.items }
+{
+    let flow = &mut host.flows[s as usize];
+    let mut bytes = [0; 68];
+    flow.bytes.take(&mut bytes[..length_of(&next.message)]);
+    flow.next = None;
+    if let (Reply::Sent(SentKind::Confirm), Some(link)) = (reply, next.link) {
+        host.core.link_made(link);
+    }
+}
+
+/// The length of a message, as it is written.
+fn length_of(message: &ClcMessage) -> usize
+    ensures length { result ≡ clc_length message.now }
+    ensures most { result ≤ 68 }
+{
+    match message {
+        ClcMessage::Proposal(_) => 52,
+        ClcMessage::Accept(_) | ClcMessage::Confirm(_) => 68,
+        ClcMessage::Decline(_) => 28,
+    }
 }
