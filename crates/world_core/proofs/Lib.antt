@@ -14,11 +14,14 @@ pub mod CallEntries
 pub mod Carried
 pub mod CarriedPosts
 pub mod Carrying
+pub mod ClcFits
+pub mod ClcLengths
 pub mod ClcMoves
 pub mod ClcTaken
 pub mod CompletionEntries
 pub mod CompletionsAfter
 pub mod ConfirmEnds
+pub mod ClcPosts
 pub mod ConfirmEntries
 pub mod ConfirmManagers
 pub mod Confirmations
@@ -121,6 +124,8 @@ pub mod Shaken
 pub mod SmallEnds
 pub mod SoundEnds
 pub mod Standing
+pub mod StreamFronts
+pub mod StreamsAfter
 pub mod StandingLendings
 pub mod StartedRows
 pub mod StillEntries

@@ -17,6 +17,7 @@ pub mod Sending
 pub mod Settings
 pub mod Sockets
 pub mod Steps
+pub mod Streams
 pub mod Views
 pub mod WireSteps
 pub mod Wired

@@ -19,6 +19,7 @@ mod laws;
 mod link;
 mod moment;
 mod settings;
+mod stream_laws;
 mod wire_laws;
 mod world;
 
@@ -40,6 +41,12 @@ pub use laws::{
 };
 pub use pipe_model::StepFault;
 pub use settings::{BadField, Field};
+pub use stream_laws::{
+    a_stream_begins_with_what_waits, a_write_goes_into_the_own_stream,
+    only_the_handshake_posts_clc, own_streams_stand_with_the_posts,
+    the_peers_streams_give_what_is_taken, untaken_messages_are_as_long_as_told,
+    untaken_messages_can_be_written,
+};
 pub use wire_laws::{
     an_entry_gives_deeds_and_fates, no_end_closes, no_lending_was_ever_over, no_message_is_dropped,
     offers_differ_in_their_tokens, own_messages_are_those_under_the_token,
