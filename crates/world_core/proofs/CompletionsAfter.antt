@@ -37,7 +37,10 @@ use Rattle.world_core.specs.Steps.{entry_of}
 use Rattle.world_core.specs.Sending.{carried_from, goes_on_wire, moved, puts_all, MaySendAll}
 use Rattle.world_core.specs.Hosts.{AreHosts, AreHostsAfter, IsHostAfter, IsWireAfter, IsPlayedBy, past_of, told_at, with_posts}
 use Rattle.world_core.proofs.HostsKept.{if-none, unposted, stands-on, hosts-after, played-now}
-use Rattle.world_core.proofs.LinkStubs.{Flowing, has-lendings, own-flows, same-flows, their-flows, wire-own, room-own, may-send}
+use Rattle.world_core.proofs.AllLendings.{has-lendings}
+use Rattle.world_core.proofs.StreamsAfter.{Flowing, own-flows, their-flows}
+use Rattle.world_core.proofs.ClcPosts.{no-clc-posts, none-put}
+use Rattle.world_core.proofs.OwnWires.{wire-own, room-own, may-send}
 use Rattle.world_core.proofs.WiresAfter.{wire-theirs}
 use Rattle.world_core.proofs.CallEntries.{IsNothing}
 use Rattle.world_core.proofs.CompletionEntries.{completes-nothing, completes-write, completes-message}
@@ -112,12 +115,12 @@ module _ (setup : Setup) (payload : List ℕ) (past : List Entry) (heard : ℕ) 
   own-host g stands wire_is flows_are =
       let own = before.own in
       let set = before.set in
-      let same = same-flows setup set.one payload Now past Heard play refl h.flows.items in record {
+      let same = none-put (posted setup payload past heard (Complete 1 x)) h.flows.items (no-clc-posts setup set.one payload Now past Heard play refl) in record {
         side = stands;
         wire = subst (λ (w : Queues). IsWireAfter setup payload x (entry_of setup payload past heard actor (Complete 1 x) ∷ past) w) (sym wire_is)
             (wire-own setup set.one payload Now past Heard play lent-after x refl (buffer_of setup payload x (entry_of setup payload past heard actor (Complete 1 x) ∷ past) ∷ []) h.wire own.wire);
         sockets = ap (λ (fs : List Outflow). length fs) (flows_are ∙ same) ∙ own.sockets;
-        flows = subst (λ (fs : List Outflow). Flowing payload setup.sockets x (entry_of setup payload past heard actor (Complete 1 x) ∷ past) fs) (sym flows_are)
+        flows = subst (λ (fs : List Outflow). Flowing setup set.one payload x (entry_of setup payload past heard actor (Complete 1 x) ∷ past) fs) (sym flows_are)
             (own-flows setup set.one payload Now past Heard play h.flows.items own.sockets own.flows (λ s. not-written payload x x s (completed_told (completing 1 x past)) past));
       }
 

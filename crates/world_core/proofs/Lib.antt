@@ -75,7 +75,6 @@ pub mod LinkFacts
 pub mod LinkManagers
 pub mod LinkMoves
 pub mod LinkRoom
-pub mod LinkStubs
 pub mod LinkTold
 pub mod Lists
 pub mod MessageEnds
