@@ -79,6 +79,7 @@ pub mod LinkTold
 pub mod Lists
 pub mod MessageEnds
 pub mod Moved
+pub mod MovedWires
 pub mod Moves
 pub mod NeverOver
 pub mod NewManagers
@@ -103,6 +104,8 @@ pub mod Places
 pub mod PlainPosts
 pub mod PlainWires
 pub mod PlayedWorlds
+pub mod Quiet
+pub mod PostedClc
 pub mod PostsFrom
 pub mod Quiet
 pub mod QuietEntries

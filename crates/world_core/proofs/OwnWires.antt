@@ -9,6 +9,7 @@ use Rattle.rmb_region.specs.Regions.{Buffer}
 use Rattle.pipe_model.specs.declared.sent.Sent.{Sent}
 use Rattle.pipe_model.specs.declared.setup.Setup.{Setup}
 use Rattle.pipe_model.specs.declared.post.Post.{Post}
+use Rattle.pipe_model.specs.declared.post.Post.TheVariants.{Write, Cdc, Llc, Clc}
 use Rattle.pipe_model.specs.declared.entry.Entry.{Entry}
 use Rattle.pipe_model.specs.Words.{element_size, elements_of}
 use Rattle.pipe_model.specs.History.{Offered, offered, next_number}
@@ -32,7 +33,7 @@ use Rattle.world_core.specs.Goings.{Going, Stayed, Lands_own, Lands_other, Compl
 use Rattle.world_core.specs.Agreement.{HasOffers, GivesItems, GoesOn, IsShaken, PostsOne}
 use Rattle.world_core.specs.Managers.{manager_of, HasLendings}
 use Rattle.world_core.specs.Hosts.{half_of, plains, shots, IsWireAfter, with_posts}
-use Rattle.world_core.specs.Sending.{carried_from, goes_on_wire, moved, acting_side, MaySend, MaySendAll}
+use Rattle.world_core.specs.Sending.{carried_from, goes_on_wire, moved, acting_side, MaySendAll}
 use Rattle.world_core.proofs.Handshaken.{shaken, has-offers, gives-items}
 use Rattle.world_core.proofs.PlayedWorlds.{played}
 use Rattle.world_core.proofs.Idle.{idle}
@@ -44,6 +45,7 @@ use Rattle.world_core.proofs.FewUps.{fits-elements}
 use Rattle.world_core.proofs.LastSent.{last-told}
 use Rattle.world_core.proofs.Aimers.{aimed, plain-here}
 use Rattle.world_core.proofs.PostsFrom.{IsSentBy, posts-from, of-acting, each-posted}
+use Rattle.world_core.proofs.PostedClc.{IsPosted, clc-posted}
 use Rattle.world_core.proofs.CarriedPosts.{carried-placed, carried-long, carried-plain, told_by, one-cdc}
 use Rattle.world_core.proofs.WiresAfter.{goes, news-sent, wire-with, wire-carries, CarriesAfter}
 
@@ -51,10 +53,18 @@ some-in : (ms : List Sent) (m : Sent) (is : List Sent) → is ≡ ms ++ m ∷ []
 some-in [] m is e f = true≢false (ap (λ (ks : List Sent). is_some (head ks)) (sym e ∙ f))
 some-in (k ∷ ms) m is e f = true≢false (ap (λ (ks : List Sent). is_some (head ks)) (sym e ∙ f))
 
+-- that the token of a CDC message names an end
+abbrev pub IsAimed : Manager Kept → Post → Type 0
+IsAimed v (Cdc from link m) = IsSome (aimer m.token v.records)
+IsAimed v _ = Unit {0}
+
 -- each may be sent
-may-all : (sockets : ℕ) (v : Manager Kept) (posts : List Post) → EachPost (MaySend sockets v) posts → MaySendAll sockets v posts
-may-all sockets v [] f = tt
-may-all sockets v (post ∷ posts) f = (f.0, may-all sockets v posts f.1)
+may-all : (sockets : ℕ) (x : Side) (past : List Entry) (v : Manager Kept) (posts : List Post) → EachPost (IsAimed v) posts → EachPost (IsPosted sockets x past) posts → MaySendAll sockets v posts
+may-all sockets x past v [] f g = tt
+may-all sockets x past v (Cdc from link m ∷ posts) f g = (f.0, may-all sockets x past v posts f.1 g.1)
+may-all sockets x past v (Clc from s link m ∷ posts) f g = let known = g.0 in (known.0, may-all sockets x past v posts f.1 g.1)
+may-all sockets x past v (Write from link key address len ∷ posts) f g = (tt, may-all sockets x past v posts f.1 g.1)
+may-all sockets x past v (Llc from link m ∷ posts) f g = (tt, may-all sockets x past v posts f.1 g.1)
 
 is-there : (o : Option ℕ) (s : ℕ) → o ≡ Some s → IsSome o
 is-there (Some t) s e = refl
@@ -154,10 +164,9 @@ module _ (setup : Setup) (one : IsOneLink setup) (payload : List ℕ) (e : Entry
       pub wire-own : (w : Queues) → IsWireAfter setup payload x past w → IsWireAfter setup payload x (e ∷ past) (with_posts Cs (moved x e.event w))
       wire-own w wire = wire-with setup one payload e past n p x w wire Cs (carried-placed N (next_number past) setup.sockets x 1 e.posts from) plain-own
 
-      -- each post may be sent
-      pub may-send : (v : Manager Kept) → StandsFor v N → MaySendAll setup.sockets v e.posts
-      may-send v stands = may-all setup.sockets v e.posts
-          (each-posted setup one payload e past n p (MaySend setup.sockets v) (λ y s l m k. k) (λ y l m. tt) (λ y l k a len. tt) (λ q m t. aims q m t))
+      -- the token of each CDC message names an end
+      pub each-aimed : (v : Manager Kept) → StandsFor v N → EachPost (IsAimed v) e.posts
+      each-aimed v stands = each-posted setup one payload e past n p (IsAimed v) (λ y s l m k. tt) (λ y l m. tt) (λ y l k a len. tt) (λ q m t. aims q m t)
         where
           aims-at : (q : PostsOne setup payload (draft setup payload past p.0 e.event) past) (m : CdcMessage) → m.token ≡ (q.offer).offer.token → q.x ≡ x → aimer m.token (N).records ≡ Some q.s
           aims-at q m t same =
@@ -169,6 +178,10 @@ module _ (setup : Setup) (one : IsOneLink setup) (payload : List ℕ) (e : Entry
           aims q m t =
               let works = stands.works in
               is-there (aimer m.token v.records) q.s (aimers_same m.token v.records (N).records works.records ∙ aims-at q m t (of-acting setup one payload e past n p q ∙ acts))
+
+      -- each post may be sent
+      pub may-send : (v : Manager Kept) → StandsFor v N → MaySendAll setup.sockets v e.posts
+      may-send v stands = may-all setup.sockets x (e ∷ past) v e.posts (each-aimed v stands) (clc-posted setup one payload e past n p x acts)
 
   -- the wire has room for the posts
   pub room-own : (x : Side) → acting_side e.event ≡ x → (w : Queues) → IsWireAfter setup payload x past w → length (filter goes_on_wire e.posts) ≤ room_of (moved x e.event w)
