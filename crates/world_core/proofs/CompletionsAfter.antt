@@ -40,7 +40,8 @@ use Rattle.world_core.proofs.HostsKept.{if-none, unposted, stands-on, hosts-afte
 use Rattle.world_core.proofs.AllLendings.{has-lendings}
 use Rattle.world_core.proofs.StreamsAfter.{Flowing, own-flows, their-flows}
 use Rattle.world_core.proofs.ClcPosts.{no-clc-posts, none-put}
-use Rattle.world_core.proofs.OwnWires.{wire-own, room-own, may-send}
+use Rattle.world_core.proofs.OwnWires.{wire-own, room-own, each-aimed}
+use Rattle.world_core.proofs.DataSends.{data-may-go}
 use Rattle.world_core.proofs.WiresAfter.{wire-theirs}
 use Rattle.world_core.proofs.CallEntries.{IsNothing}
 use Rattle.world_core.proofs.CompletionEntries.{completes-nothing, completes-write, completes-message}
@@ -287,11 +288,14 @@ module _ (at : Moment) (x : Side) (c : Carried) (h k : Host) (completed : HasCom
         let own = hosts.own in
         let set = hosts.set in
         let q = d.done (buffer_of at.setup.now at.payload.now x (past_of at) ∷ []) 0 in
+        let e : Entry = entry_of at.setup.now at.payload.now (past_of at) at.heard 0 (Complete 1 x) in
+        let n : ℕ = at.heard + handed (told at.setup.now at.payload.now (past_of at) (Complete 1 x)) in
+        let p = play at.setup.now at.payload.now (past_of at) at.heard x First k hosts (few-before at x First k hosts few) 0 in
+        let lendings = lent-after at.setup.now at.payload.now (past_of at) at.heard x First k hosts (few-before at x First k hosts few) 0 in
         subst (λ n. MaySendAll n v posts) (sym own.sockets) (subst (λ (ps : List Post). MaySendAll at.setup.now.sockets v ps) (sym posts-now)
-        (may-send at.setup.now set.one at.payload.now (entry_of at.setup.now at.payload.now (past_of at) at.heard 0 (Complete 1 x)) (past_of at) (at.heard + handed (told at.setup.now at.payload.now (past_of at) (Complete 1 x)))
-        (play at.setup.now at.payload.now (past_of at) at.heard x First k hosts (few-before at x First k hosts few) 0)
-        (lent-after at.setup.now at.payload.now (past_of at) at.heard x First k hosts (few-before at x First k hosts few) 0) x refl (buffer_of at.setup.now at.payload.now x (past_of at) ∷ []) v
-        (subst (λ (n : Manager Half). StandsFor v n) (sym q.own) acted)))
+        (data-may-go at.setup.now.sockets v (posted at.setup.now at.payload.now (past_of at) at.heard (Complete 1 x))
+        (each-aimed at.setup.now set.one at.payload.now e (past_of at) n p lendings x refl (buffer_of at.setup.now at.payload.now x (past_of at) ∷ []) v (subst (λ (m : Manager Half). StandsFor v m) (sym q.own) acted))
+        (no-clc-posts at.setup.now set.one at.payload.now e (past_of at) n p refl)))
 
     pub has-room : length (filter goes_on_wire posts) ≤ room_of h.wire
     has-room =
