@@ -63,6 +63,7 @@ pub mod Landed
 pub mod LandedEnds
 pub mod LandingEntries
 pub mod Landings
+pub mod LandingsAfter
 pub mod LastSent
 pub mod LastingLendings
 pub mod LaterConfirms
