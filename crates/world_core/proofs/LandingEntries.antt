@@ -22,18 +22,18 @@ use Rattle.pipe_model.specs.Wires.{landing, unlanded}
 use Rattle.pipe_model.specs.Lending.{Lending, record_of}
 use Rattle.pipe_model.specs.Replies.{deliver_told, lands_told}
 use Rattle.pipe_model.specs.Lawful.{posted}
-use Rattle.world_core.specs.OneLink.{the_link, Stage, NoLink, Begun, Made, Asking, LiveAtA, LiveAtBoth}
-use Rattle.world_core.specs.Sockets.{IsWorld}
+use Rattle.pipe_model.specs.Messages.{confirm_link}
+use Rattle.world_core.specs.OneLink.{the_link, llc_of}
 use Rattle.world_core.specs.Agreement.{IsShaken}
 use Rattle.world_core.specs.Played.{IsOneLink, IsPlayed, IsMade}
 use Rattle.world_core.specs.Steps.{entry_of}
-use Rattle.world_core.specs.Managers.{HasLendings, end_of, first_on}
+use Rattle.world_core.specs.Managers.{HasLendings, end_of}
 use Rattle.world_core.proofs.QuietEvents.{entry-of}
 use Rattle.world_core.proofs.CallEntries.{IsNothing}
 use Rattle.world_core.proofs.WireEntries.{IsMessage, IsTaken}
 use Rattle.world_core.proofs.QuietManagers.{landing-idle, write-landed, cdc-landed}
 use Rattle.world_core.proofs.LinkEntries.{IsConfirmed, request-landed, answer-landed}
-use Rattle.world_core.proofs.Landings.{no-llc-first}
+use Rattle.world_core.proofs.ConfirmEnds.{Front, asks, answers}
 use Rattle.world_core.proofs.Lendings.{lent-to-up}
 use Rattle.world_core.proofs.NeverOver.{names-record}
 use Rattle.world_core.proofs.Handshaken.{shaken}
@@ -44,7 +44,7 @@ module _ (setup : Setup) (one : IsOneLink setup) (payload : List ℕ) (past : Li
   With reply = entry-of actor (Deliver 1 x) reply (posted setup payload past heard (Deliver 1 x))
 
   -- the entry is played
-  plays : (reply : Reply) → reply ≡ deliver_told setup payload (other x) past (landing 1 x past) → IsPlayed setup payload (With reply ∷ past) (heard + 0) × IsShaken setup (With reply ∷ past)
+  pub plays : (reply : Reply) → reply ≡ deliver_told setup payload (other x) past (landing 1 x past) → IsPlayed setup payload (With reply ∷ past) (heard + 0) × IsShaken setup (With reply ∷ past)
   plays reply is =
       let made : IsMade setup payload past heard (With reply) = record { built = refl; reply = is; posts = refl } in
       let now : IsPlayed setup payload (With reply ∷ past) (heard + 0) = (heard, made, refl, p) in
@@ -59,7 +59,7 @@ module _ (setup : Setup) (one : IsOneLink setup) (payload : List ℕ) (past : Li
       (landing-idle setup payload regions w.stage past w.world (lent-to-up setup payload w.stage past w.world lendings_are) actor (heard + 0) (posted setup payload past heard (Deliver 1 x)) 1 x (plays Idle is))
 
   module _ (c : Placed) (next : landing 1 x past ≡ Some c) where
-    told-as : (post : Post) → c.post ≡ post → lands_told setup payload (other x) past c post ≡ Landed c.at → Landed c.at ≡ deliver_told setup payload (other x) past (landing 1 x past)
+    pub told-as : (post : Post) → c.post ≡ post → lands_told setup payload (other x) past c post ≡ Landed c.at → Landed c.at ≡ deliver_told setup payload (other x) past (landing 1 x past)
     told-as post e is = sym (ap (λ o. deliver_told setup payload (other x) past o) next ∙ (ap (λ q. lands_told setup payload (other x) past c q) e ∙ is))
 
     -- a write lands
@@ -88,3 +88,21 @@ module _ (setup : Setup) (one : IsOneLink setup) (payload : List ℕ) (past : Li
         subst (λ r. IsTaken setup payload regions x s sent (With r) past) is
         (cdc-landed setup payload regions w.stage past w.world (lent-to-up setup payload w.stage past w.world lendings_are) actor (heard + 0) (posted setup payload past heard (Deliver 1 x)) x s c sent next is_message first
         (plays (Landed c.at) is))
+
+-- CONFIRM LINK lands at A, or the reply to it at B
+pub llc-told : (setup : Setup) (one : IsOneLink setup) (payload : List ℕ) (past : List Entry) (heard : ℕ) (p : IsPlayed setup payload past heard) (lendings_are : HasLendings setup payload past) (x : Side) (c : Placed)
+    → landing 1 x past ≡ Some c → (from : Side) (link : LinkId) (m : LlcMessage) → c.post ≡ Llc from link m → Landed c.at ≡ deliver_told setup payload (other x) past (landing 1 x past)
+llc-told setup one payload past heard p lendings_are x c next from link m e = told-as setup one payload past heard p lendings_are [] x 0 c next (Llc from link m) e refl
+
+pub lands-llc : (setup : Setup) (one : IsOneLink setup) (payload : List ℕ) (past : List Entry) (heard : ℕ) (p : IsPlayed setup payload past heard) (lendings_are : HasLendings setup payload past) (regions : List Buffer) (x : Side) (actor : ℕ) (c : Placed)
+    → landing 1 x past ≡ Some c → (q : Post) (reply : Bool) → c.post ≡ q → Front setup past x q reply → IsConfirmed setup payload regions (other x) reply (entry_of setup payload past heard actor (Deliver 1 x)) past
+lands-llc setup one payload past heard p lendings_are regions x actor c next q reply e (asks qp world) =
+    let is = llc-told setup one payload past heard p lendings_are B c next B the_link (confirm_link setup B false the_link qp) e in
+    let now = plays setup one payload past heard p lendings_are regions B actor (Landed c.at) is in
+    subst (λ r. IsConfirmed setup payload regions A true (entry-of actor (Deliver 1 B) r (posted setup payload past heard (Deliver 1 B))) past) is
+    (request-landed setup payload regions past lendings_are c actor (heard + 0) (posted setup payload past heard (Deliver 1 B)) (Llc B the_link (confirm_link setup B false the_link qp)) (ap (λ post. llc_of post) e) qp world next now.0 now.1)
+lands-llc setup one payload past heard p lendings_are regions x actor c next q reply e (answers qp world) =
+    let is = llc-told setup one payload past heard p lendings_are A c next A the_link (confirm_link setup A true the_link qp) e in
+    let now = plays setup one payload past heard p lendings_are regions A actor (Landed c.at) is in
+    subst (λ r. IsConfirmed setup payload regions B false (entry-of actor (Deliver 1 A) r (posted setup payload past heard (Deliver 1 A))) past) is
+    (answer-landed setup payload regions past lendings_are c actor (heard + 0) (posted setup payload past heard (Deliver 1 A)) (Llc A the_link (confirm_link setup A true the_link qp)) (ap (λ post. llc_of post) e) qp world next now.0 now.1)

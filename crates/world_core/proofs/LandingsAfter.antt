@@ -24,7 +24,7 @@ use Rattle.pipe_model.specs.Ends.{Half}
 use Rattle.pipe_model.specs.Replies.{told, deliver_told}
 use Rattle.pipe_model.specs.Lawful.{posted}
 use Rattle.rc_link.specs.declared.Carried.{Carried}
-use Rattle.rc_link.specs.Wire.{Queues, placed, landing as would_land, with_landed}
+use Rattle.rc_link.specs.Wire.{Queues, placed, landing as would_land, with_landed, room_of}
 use Rattle.conn_end.specs.Kept.{Kept}
 use Rattle.side_core.specs.Manager.{Manager, StandsFor}
 use Rattle.world_core.specs.declared.host.Host.{Host}
@@ -38,13 +38,15 @@ use Rattle.world_core.specs.Managers.{manager_of, HasLendings}
 use Rattle.world_core.specs.Leaving.{HasLanded, with_wire}
 use Rattle.world_core.specs.Landed.{buffer_of}
 use Rattle.world_core.specs.Steps.{entry_of}
-use Rattle.world_core.specs.Sending.{carried_from, moved, puts_all}
+use Rattle.world_core.specs.Sending.{carried_from, goes_on_wire, moved, puts_all, MaySendAll}
 use Rattle.world_core.specs.Hosts.{AreHosts, AreHostsAfter, IsHostAfter, IsWireAfter, IsPlayedBy, past_of, with_posts}
 use Rattle.world_core.proofs.HostsKept.{if-none, unposted, buffer-kept, hosts-after, played-now}
 use Rattle.world_core.proofs.AllLendings.{has-lendings}
 use Rattle.world_core.proofs.StreamsAfter.{Flowing, own-flows, their-flows}
 use Rattle.world_core.proofs.ClcPosts.{no-clc-posts, none-put}
-use Rattle.world_core.proofs.OwnWires.{wire-own}
+use Rattle.world_core.proofs.OwnWires.{wire-own, room-own, each-aimed}
+use Rattle.world_core.proofs.DataSends.{data-may-go}
+use Rattle.world_core.proofs.WriteEnds.{buffer-stays}
 use Rattle.world_core.proofs.WiresAfter.{wire-theirs}
 use Rattle.world_core.proofs.WireMoves.{only-of}
 use Rattle.world_core.proofs.MovedWires.{deliver-own, deliver-else}
@@ -61,11 +63,15 @@ none-on B (Landed at) = refl
 none-on B (Dropped token) = refl
 none-on B _ = refl
 
+idle-on : (x : Side) → lands_on x 1 (Deliver 1 x) Idle ≡ 0
+idle-on A = refl
+idle-on B = refl
+
 one-on : (x : Side) (at : PostRef) → lands_on x 1 (Deliver 1 x) (Landed at) ≡ 1
 one-on A at = refl
 one-on B at = refl
 
-twice : (x : Side) → other (other x) ≡ x
+pub twice : (x : Side) → other (other x) ≡ x
 twice A = refl
 twice B = refl
 
@@ -197,3 +203,49 @@ module _ (at : Moment) (x : Side) (h k : Host) (hosts : AreHosts at x h k) (few 
       (λ actor. let q = none (buffer_of S P (other x) (After actor ∷ Past) ∷ []) actor in subst (λ (n : Manager Half). StandsFor v n) (sym (q.kept (other x))) (stands actor))
       (λ n taken. unposted-wire empty n)
       (ap (λ (ps : List Post). puts_all ps k.flows.items) (sym empty))
+
+  -- nothing lands
+  pub idle-lands : (w : Queues) (posts : List Post) → would_land h.wire ≡ None → posts ≡ [] → w ≡ with_landed (would_land h.wire) h.wire → IsPlayedBy at (Deliver 1 x) Idle posts x (with_wire w h) k
+  idle-lands w posts none posts_now wire_is =
+      let set = hosts.set in
+      let own = hosts.own in
+      let theirs = hosts.theirs in
+      let nothing = no-landing S P x Past h.wire own.wire set.one at.heard hosts.played none in
+      let is : Idle ≡ deliver_told S P (other x) Past (landing 1 x Past) = sym (ap (λ o. deliver_told S P (other x) Past o) nothing) in
+      quiet-landing w k.core Idle posts is posts_now (λ regions actor. lands-nothing S set.one P Past at.heard hosts.played lent-now regions x actor nothing) wire_is
+      (λ actor. subst (λ (b : Buffer). StandsFor k.core (manager_of S P (b ∷ []) (other x) Past))
+        (sym (buffer-stays S P x (After actor) Past (ap (λ r. if_latest the_link Past (lands_on x 1 (Deliver 1 x) r)) (sym is) ∙ (ap (λ n. if_latest the_link Past n) (idle-on x) ∙ if-none Past)))) theirs.side)
+
+  -- what the host of the peer posts
+  module _ (v : Manager Kept) (posts : List Post) (posts_now : posts ≡ posted at.setup.now at.payload.now (past_of at) at.heard (Deliver 1 x))
+      (stands : (actor : ℕ) → StandsFor v (Taker at.setup.now at.payload.now (past_of at) at.heard x h k hosts few-before actor)) where
+    pub may-be-sent : MaySendAll (length k.flows.items) v posts
+    may-be-sent =
+        let theirs = hosts.theirs in
+        let set = hosts.set in
+        let n : ℕ = at.heard + handed (told S P Past (Deliver 1 x)) in
+        let p = play S P Past at.heard x h k hosts few-before 0 in
+        let lendings = lent-after S P Past at.heard x h k hosts few-before 0 in
+        subst (λ n. MaySendAll n v posts) (sym theirs.sockets) (subst (λ (ps : List Post). MaySendAll S.sockets v ps) (sym posts_now)
+        (data-may-go S.sockets v Posts (each-aimed S set.one P (After 0) Past n p lendings (other x) refl (buffer_of S P (other x) (After 0 ∷ Past) ∷ []) v (stands 0)) (no-clc-posts S set.one P (After 0) Past n p refl)))
+
+    pub has-room : length (filter goes_on_wire posts) ≤ room_of k.wire
+    has-room =
+        let theirs = hosts.theirs in
+        let set = hosts.set in
+        let n : ℕ = at.heard + handed (told S P Past (Deliver 1 x)) in
+        let p = play S P Past at.heard x h k hosts few-before 0 in
+        subst (λ (ps : List Post). length (filter goes_on_wire ps) ≤ room_of k.wire) (sym posts_now)
+        (subst (λ (w : Queues). length (filter goes_on_wire Posts) ≤ room_of w) (deliver-else x 1 k.wire) (room-own S set.one P (After 0) Past n p (other x) refl k.wire theirs.wire))
+
+    pub sent-landing : (w : Queues) (m : Manager Half) (reply : Reply) → reply ≡ deliver_told S P (other x) Past (landing 1 x Past) → w ≡ with_landed (would_land h.wire) h.wire
+        → ((actor : ℕ) → manager_of S P OwnRegions x (After actor ∷ Past) ≡ m) → StandsFor h.core m → (l : Host) (entry : ℕ) → entry ≡ length at.history.now + 1 → l.core ≡ v
+        → ((n : Manager Half) → StandsFor v n → l.wire ≡ with_posts (carried_from n entry 1 posts) k.wire) → l.flows.items ≡ puts_all posts k.flows.items → IsPlayedBy at (Deliver 1 x) reply posts x (with_wire w h) l
+    sent-landing w m reply reply_now wire_is is own_stands l entry number core_is sent_is flows_are =
+        let next : entry ≡ next_number Past = number ∙ ap (λ n. n + 1) (sym (length-reverse at.history.now)) in
+        is-played w l reply posts m reply_now posts_now wire_is is own_stands
+        (λ actor. subst (λ u. StandsFor u (Taker S P Past at.heard x h k hosts few-before actor)) (sym core_is) (stands actor))
+        (λ n taken.
+          sent_is n (subst (λ u. StandsFor u n) core_is taken)
+          ∙ (ap (λ i. with_posts (carried_from n i 1 posts) k.wire) next ∙ ap (λ (ps : List Post). with_posts (carried_from n (next_number Past) 1 ps) k.wire) posts_now))
+        (flows_are ∙ ap (λ (ps : List Post). puts_all ps k.flows.items) posts_now)

@@ -61,6 +61,7 @@ pub mod KeyedEnds
 pub mod KnownEntries
 pub mod Landed
 pub mod LandedEnds
+pub mod LandingCases
 pub mod LandingEntries
 pub mod Landings
 pub mod LandingsAfter
