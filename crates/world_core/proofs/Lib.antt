@@ -63,6 +63,7 @@ pub mod Landed
 pub mod LandedEnds
 pub mod LandingCases
 pub mod LandingEntries
+pub mod LandingMessages
 pub mod Landings
 pub mod LandingsAfter
 pub mod LastSent
