@@ -1,37 +1,40 @@
 -- Each line of a scene fits it.
-use Rattle.std.proofs.Common.{◌≡◌, ℕ, ◌+◌, ◌<◌, ◌≤◌, max, Bool, true, false, List, [], ◌∷◌, ◌++◌, length, Result, Ok, Err, cond, ltb, refl, ap, sym, subst, arith}
-use Rattle.std.specs.List.{All, list_all}
-use Rattle.std.specs.Prelude.{nat_le, ◌&&◌}
-use Rattle.std.proofs.lemmas.Bool.{ltb-true, leb-true, and_parts}
+use Rattle.std.proofs.Common.{◌≡◌, ℕ, ◌+◌, ◌<◌, ◌≤◌, max, Bool, true, false, List, [], ◌∷◌, ◌++◌, length, Result, Ok, Err, cond, ltb, refl, subst, arith}
+use Rattle.std.specs.List.{All}
+use Rattle.std.proofs.lemmas.Bool.{ltb-true}
 use Rattle.std.proofs.lemmas.List.{length-append}
 use Rattle.std.proofs.lemmas.List.Elements.{All-nil, All-push, All-weaker}
+use Rattle.smc_num.specs.declared.Side.{Side}
+use Rattle.smc_num.specs.declared.Side.TheVariants.{A, B}
 use Rattle.pipe_model.specs.declared.setup.Setup.{Setup}
+use Rattle.pipe_model.specs.declared.setup.Room.{Room}
+use Rattle.pipe_model.specs.Words.{rmbs_of, elements_of}
 use Rattle.pipe_model.specs.declared.event.Event.{Event}
 use Rattle.pipe_model.specs.declared.event.Event.TheVariants.{Open, Raw, Write, Read, Finish, Close, Abort, Await, Clc, Deliver, Complete, Swallow, Cut, Heal, Report, Move, Grow, Test, Trim}
 use Rattle.pipe_model.specs.Settings.{default_setup, default_room}
 use Rattle.pipe_model.specs.Fits.{Fits}
 use Rattle.scene_text.specs.declared.faults.LineKind.{LineKind}
-use Rattle.scene_text.specs.declared.faults.LineKind.TheVariants as kinds
 use Rattle.scene_text.specs.declared.grammar.Command.{Command}
 use Rattle.scene_text.specs.declared.grammar.Command.TheVariants as commands
-use Rattle.scene_text.specs.declared.limits.TheConstants.{MOST_PUMP_STEPS, MOST_READ_BYTES}
+use Rattle.scene_text.specs.declared.limits.TheConstants.{MOST_NAMES, MOST_PUMP_STEPS, MOST_READ_BYTES, MOST_RMBS, MOST_ELEMENTS}
 use Rattle.scene_text.specs.declared.scenes.SceneWhat.{SceneWhat}
 use Rattle.scene_text.specs.declared.scenes.SceneWhat.TheVariants.{One, Pump}
 use Rattle.scene_text.specs.declared.scenes.SceneLine.{SceneLine}
-use Rattle.scene_text.specs.Words.{◌>>=◌, NamedEnd, number_of, number_in, name_of, end_of, runs_of, bytes_in, words_of}
-use Rattle.scene_text.specs.Scenes.{PlainScene, empty_scene, socket_of, mentioned, with_line, opens, pumps, writes, reads, with_sockets, WhatFits, LineFits, IsSound}
-use Rattle.scene_text.specs.Grammar.{command_of, row_of, words_said, is_printable, line_said, is_passed_over, limited, after_line, at_line, after_lines}
+use Rattle.scene_text.specs.Words.{◌>>=◌, NamedEnd, number_in, name_of, side_in, end_of, runs_of, bytes_in}
+use Rattle.scene_text.specs.Scenes.{PlainScene, empty_scene, socket_of, mentioned, with_line, opens, pumps, writes, reads, clcs, delivers, completes, with_sockets, WhatFits, LineFits, IsWithinLimits, IsSubnet, subnet_at, IsInRange, IsSound}
+use Rattle.scene_text.specs.Settings.{PlainDraft, empty_draft}
+use Rattle.scene_text.specs.Grammar.{command_of, row_of, limited, line_done, after_lines}
 use Rattle.scene_text.proofs.Mentions.{socket_within}
-use Rattle.scene_text.proofs.Reading.{bind_ok, not_passed, at_line_ok, lines_within}
+use Rattle.scene_text.proofs.Ranges.{Changes, bind_ok, number_in_range}
+use Rattle.scene_text.proofs.Reading.{not_passed, lines_keep, lines_within}
 
 -- the setup of a scene with so many names
 abbrev of_names : ℕ → Setup
 of_names n = record default_setup { sockets = n }
 
--- a scene of which no more is read: only the number of sockets is still to be set
+-- what each line keeps; the number of sockets is still to be set
 record IsKept (scene : PlainScene) : Type 0 where
-  setup : scene.setup ≡ default_setup
-  room : scene.room ≡ default_room
+  settings : IsInRange scene.setup scene.room
   lines : All (LineFits (of_names (length scene.names)) (length scene.payload)) scene.lines
 
 -- with more sockets and a longer payload an event fits as before
@@ -46,8 +49,8 @@ module _ (few many : Setup) (more : few.sockets ≤ many.sockets) (short long : 
   event_fits (Close end) h = absurd h
   event_fits (Abort end) h = absurd h
   event_fits (Await end) h = absurd h
-  event_fits (Clc s dir) h = absurd h
-  event_fits (Complete slot dir) h = absurd h
+  event_fits (Clc s dir) h = omega arith
+  event_fits (Complete slot dir) h = h
   event_fits (Swallow slot dir) h = absurd h
   event_fits (Cut slot) h = absurd h
   event_fits (Heal slot) h = absurd h
@@ -82,8 +85,7 @@ socket_below names name =
 -- one more line, which fits, in a scene of more names and bytes
 added : (scene : PlainScene) (names : List (List ℕ)) (payload : List ℕ) (what : SceneWhat) → length scene.names ≤ length names → length scene.payload ≤ length payload → WhatFits (of_names (length names)) (length payload) what → IsKept scene → IsKept (with_line what (record scene { names = names; payload = payload }))
 added scene names payload what more longer fits kept = record {
-  setup = kept.setup;
-  room = kept.room;
+  settings = kept.settings;
   lines = All-push (LineFits (of_names (length names)) (length payload)) scene.lines (record { what = what }) (lines_fit (of_names (length scene.names)) (of_names (length names)) more (length scene.payload) (length payload) longer scene.lines kept.lines) fits;
 }
 
@@ -99,21 +101,21 @@ module _ (scene : PlainScene) (kept : IsKept scene) where
       let all = length-append scene.payload bytes in
       added scene (mentioned scene.names end.name) (scene.payload ++ bytes) _ (names_grow scene.names end.name) (omega arith) (socket_below scene.names end.name, omega arith) kept
 
+  clcs_kept : (name : List ℕ) (dir : Side) → IsKept (clcs name dir scene)
+  clcs_kept name dir = added scene (mentioned scene.names name) scene.payload _ (names_grow scene.names name) (omega arith) (socket_below scene.names name) kept
+
+  -- the slot is the only one
+  the_slot : (slot : ℕ) → 1 ≤ slot → slot ≤ scene.setup.links → slot ≡ 1
+  the_slot slot low high = let one = kept.settings.links in omega arith
+
+  delivers_kept : (slot : ℕ) (dir : Side) → 1 ≤ slot → slot ≤ scene.setup.links → IsKept (delivers slot dir scene)
+  delivers_kept slot dir low high = added scene scene.names scene.payload _ (omega arith) (omega arith) (the_slot slot low high) kept
+
+  completes_kept : (slot : ℕ) (dir : Side) → 1 ≤ slot → slot ≤ scene.setup.links → IsKept (completes slot dir scene)
+  completes_kept slot dir low high = added scene scene.names scene.payload _ (omega arith) (omega arith) (the_slot slot low high) kept
+
   reads_kept : (end : NamedEnd) (len : ℕ) → IsKept (reads end len scene)
   reads_kept end len = added scene (mentioned scene.names end.name) scene.payload _ (names_grow scene.names end.name) (omega arith) (socket_below scene.names end.name) kept
-
-chosen : {E X : Type 0} (b : Bool) (x y : X) (e : E) → cond b (Ok x) (Err e) ≡ Ok y → (b ≡ true) × (x ≡ y)
-chosen true x y e h = (refl, cc)
-chosen false x y e h = cc
-
-number_in_range : (least most : ℕ) (word : List ℕ) (n : ℕ) → number_in least most word ≡ Ok n → (least ≤ n) × (n ≤ most)
-number_in_range least most word n e =
-    let read = bind_ok (number_of word) (λ m. cond (nat_le least m && nat_le m most) (Ok m) (Err kinds.Range)) n e in
-    let within = chosen _ _ _ _ read.2 in
-    let both = and_parts _ _ within.0 in
-    let low : least ≤ read.0 = leb-true _ _ both.0 in
-    let high : read.0 ≤ most = leb-true _ _ both.1 in
-    (omega arith, omega arith)
 
 -- each row keeps a scene so
 row_kept : (command : Command) (words : List (List ℕ)) (scene after : PlainScene) → row_of command words scene ≡ Ok after → IsKept scene → IsKept after
@@ -136,6 +138,23 @@ row_kept commands.Read (word ∷ number ∷ []) scene after e kept =
     let len = bind_ok (number_in 0 MOST_READ_BYTES number) (λ len. Ok (reads end.0 len scene)) after end.2 in
     let same : reads end.0 len.0 scene ≡ after = cc in
     subst IsKept same (reads_kept scene kept end.0 len.0)
+row_kept commands.Clc (word ∷ side ∷ []) scene after e kept =
+    let name = bind_ok (name_of word) (λ name. side_in side >>= λ dir. Ok (clcs name dir scene)) after e in
+    let dir = bind_ok (side_in side) (λ dir. Ok (clcs name.0 dir scene)) after name.2 in
+    let same : clcs name.0 dir.0 scene ≡ after = cc in
+    subst IsKept same (clcs_kept scene kept name.0 dir.0)
+row_kept commands.Deliver (word ∷ side ∷ []) scene after e kept =
+    let slot = bind_ok (number_in 1 scene.setup.links word) (λ slot. side_in side >>= λ dir. Ok (delivers slot dir scene)) after e in
+    let range = number_in_range 1 scene.setup.links word slot.0 slot.1 in
+    let dir = bind_ok (side_in side) (λ dir. Ok (delivers slot.0 dir scene)) after slot.2 in
+    let same : delivers slot.0 dir.0 scene ≡ after = cc in
+    subst IsKept same (delivers_kept scene kept slot.0 dir.0 range.0 range.1)
+row_kept commands.Complete (word ∷ side ∷ []) scene after e kept =
+    let slot = bind_ok (number_in 1 scene.setup.links word) (λ slot. side_in side >>= λ dir. Ok (completes slot dir scene)) after e in
+    let range = number_in_range 1 scene.setup.links word slot.0 slot.1 in
+    let dir = bind_ok (side_in side) (λ dir. Ok (completes slot.0 dir scene)) after slot.2 in
+    let same : completes slot.0 dir.0 scene ≡ after = cc in
+    subst IsKept same (completes_kept scene kept slot.0 dir.0 range.0 range.1)
 row_kept commands.Open [] scene after e kept = cc
 row_kept commands.Open (a ∷ b ∷ more) scene after e kept = cc
 row_kept commands.Pump [] scene after e kept = cc
@@ -146,45 +165,64 @@ row_kept commands.Write (a ∷ b ∷ c ∷ more) scene after e kept = cc
 row_kept commands.Read [] scene after e kept = cc
 row_kept commands.Read (a ∷ []) scene after e kept = cc
 row_kept commands.Read (a ∷ b ∷ c ∷ more) scene after e kept = cc
+row_kept commands.Clc [] scene after e kept = cc
+row_kept commands.Clc (a ∷ []) scene after e kept = cc
+row_kept commands.Clc (a ∷ b ∷ c ∷ more) scene after e kept = cc
+row_kept commands.Deliver [] scene after e kept = cc
+row_kept commands.Deliver (a ∷ []) scene after e kept = cc
+row_kept commands.Deliver (a ∷ b ∷ c ∷ more) scene after e kept = cc
+row_kept commands.Complete [] scene after e kept = cc
+row_kept commands.Complete (a ∷ []) scene after e kept = cc
+row_kept commands.Complete (a ∷ b ∷ c ∷ more) scene after e kept = cc
 
-words_kept : (words : List (List ℕ)) (scene after : PlainScene) → words_said words scene ≡ Ok after → IsKept scene → IsKept after
-words_kept [] scene after e kept = cc
-words_kept (word ∷ arguments) scene after e kept =
+limited_kept : (said : Result PlainScene LineKind) (after : PlainScene) → ((more : PlainScene) → said ≡ Ok more → IsKept more) → limited said ≡ Ok after → IsKept after
+limited_kept (Ok more) after keeps e = subst IsKept (not_passed _ more after e).1 (keeps more refl)
+limited_kept (Err kind) after keeps e = cc
+
+row_of_kept : (word : List ℕ) (arguments : List (List ℕ)) (scene after : PlainScene) → (command_of word >>= λ command. row_of command arguments scene) ≡ Ok after → IsKept scene → IsKept after
+row_of_kept word arguments scene after e kept =
     let command = bind_ok (command_of word) (λ command. row_of command arguments scene) after e in
     row_kept command.0 arguments scene after command.2 kept
 
-unless_fault : {E X : Type 0} (b : Bool) (r : Result X E) (fault : E) (x : X) → cond b r (Err fault) ≡ Ok x → r ≡ Ok x
-unless_fault true r fault x e = e
-unless_fault false r fault x e = cc
+done_kept : (word : List ℕ) (arguments : List (List ℕ)) (scene after : PlainScene) → line_done word arguments scene ≡ Ok after → IsKept scene → IsKept after
+done_kept word arguments scene after e kept = limited_kept (command_of word >>= λ command. row_of command arguments scene) after (λ more said. row_of_kept word arguments scene more said kept) e
 
-line_kept : (line : List ℕ) (scene after : PlainScene) → line_said line scene ≡ Ok after → IsKept scene → IsKept after
-line_kept line scene after e = words_kept (words_of line) scene after (unless_fault (list_all is_printable line) _ _ _ e)
+set_kept : (scene after : PlainScene) → Changes scene after → IsKept scene → IsKept after
+set_kept scene after changes kept = subst IsKept changes.same (record { settings = changes.ranged kept.settings; lines = kept.lines })
 
-limited_kept : (over : Bool) (said : Result PlainScene LineKind) (scene after : PlainScene) → ((more : PlainScene) → said ≡ Ok more → IsKept more) → cond over (Ok scene) (limited said) ≡ Ok after → IsKept scene → IsKept after
-limited_kept true said scene after keeps e kept = let same : scene ≡ after = cc in subst IsKept same kept
-limited_kept false (Ok more) scene after keeps e kept = subst IsKept (not_passed _ more after e).1 (keeps more refl)
-limited_kept false (Err kind) scene after keeps e kept = cc
+-- the defaults are in their ranges
+default_subnet : (x : Side) → IsSubnet (subnet_at default_setup x)
+default_subnet A = (omega arith, refl)
+default_subnet B = (omega arith, refl)
 
-lines_kept : (n : ℕ) (lines : List (List ℕ)) (scene after : PlainScene) → after_lines n lines scene ≡ Ok after → IsKept scene → IsKept after
-lines_kept n [] scene after e kept = let same : scene ≡ after = cc in subst IsKept same kept
-lines_kept n (line ∷ lines) scene after e kept =
-    let first = bind_ok (at_line n (after_line line scene)) (λ s. after_lines (n + 1) lines s) after e in
-    lines_kept (n + 1) lines first.0 after first.2 (limited_kept (is_passed_over line) (line_said line scene) scene first.0 (λ more said. line_kept line scene more said kept) (at_line_ok n _ first.0 first.1) kept)
+default_rmbs : (x : Side) → (1 ≤ rmbs_of default_setup x) × (rmbs_of default_setup x ≤ MOST_RMBS)
+default_rmbs A = (omega arith, omega arith)
+default_rmbs B = (omega arith, omega arith)
+
+default_elements : (x : Side) → (1 ≤ elements_of default_setup x) × (elements_of default_setup x ≤ MOST_ELEMENTS)
+default_elements A = (omega arith, omega arith)
+default_elements B = (omega arith, omega arith)
+
+defaults : IsInRange default_setup default_room
+defaults = record { subnet = default_subnet; links = refl; size = omega arith; rmbs = default_rmbs; elements = default_elements; depth = (omega arith, omega arith); number = (omega arith, omega arith); sockets = (omega arith, omega arith); entries = (omega arith, omega arith); bytes = (omega arith, omega arith) }
 
 empty_kept : IsKept empty_scene
-empty_kept = record { setup = refl; room = refl; lines = All-nil (LineFits (of_names 0) 0) }
+empty_kept = record { settings = defaults; lines = All-nil (LineFits (of_names 0) 0) }
+
+of_sockets : (setup : Setup) (room : Room) (sockets : ℕ) → 1 ≤ sockets → sockets ≤ MOST_NAMES → IsInRange setup room → IsInRange (record setup { sockets = sockets }) room
+of_sockets setup room sockets low high h = record { subnet = h.subnet; links = h.links; size = h.size; rmbs = h.rmbs; elements = h.elements; depth = h.depth; number = h.number; sockets = (low, high); entries = h.entries; bytes = h.bytes }
 
 -- what lines make of the empty scene is sound, with its number of sockets
-pub lines_sound : (lines : List (List ℕ)) (scene : PlainScene) → after_lines 1 lines empty_scene ≡ Ok scene → IsSound (with_sockets scene)
-lines_sound lines scene e =
-    let kept = lines_kept 1 lines empty_scene scene e empty_kept in
-    let limits = lines_within 1 lines empty_scene scene e (record { names = omega arith; lines = omega arith; payload = omega arith }) in
+pub lines_sound : (lines : List (List ℕ)) (draft : PlainDraft) → after_lines 1 lines empty_draft ≡ Ok draft → IsSound (with_sockets draft.scene)
+lines_sound lines draft e =
+    let scene = draft.scene in
+    let kept : IsKept scene = lines_keep IsKept done_kept set_kept 1 lines empty_draft draft e empty_kept in
+    let limits : IsWithinLimits scene = lines_within 1 lines empty_draft draft e (record { names = omega arith; lines = omega arith; payload = omega arith }) in
+    let few = limits.names in
     let sockets = max 1 (length scene.names) in
-    let same : record scene.setup { sockets = sockets } ≡ of_names sockets = ap (λ (s : Setup). let t : Setup = record s { sockets = sockets } in t) kept.setup in
     record {
       limits = record { names = limits.names; lines = limits.lines; payload = limits.payload };
-      setup = same;
-      sockets = subst (λ (s : Setup). length scene.names ≤ s.sockets) (sym same) (omega arith);
-      room = kept.room;
-      lines = subst (λ (s : Setup). All (LineFits s (length scene.payload)) scene.lines) (sym same) (lines_fit (of_names (length scene.names)) (of_names sockets) (omega arith) (length scene.payload) (length scene.payload) (omega arith) scene.lines kept.lines);
+      settings = of_sockets scene.setup scene.room sockets (omega arith) (omega arith) kept.settings;
+      sockets = omega arith;
+      lines = lines_fit (of_names (length scene.names)) (record scene.setup { sockets = sockets }) (omega arith) (length scene.payload) (length scene.payload) (omega arith) scene.lines kept.lines;
     }

@@ -11,22 +11,28 @@ use Rattle.scene_text.specs.declared.faults.LineFault.TheVariants.{NoMemory, Bad
 use Rattle.scene_text.specs.declared.faults.SceneFault.{SceneFault}
 use Rattle.scene_text.specs.declared.faults.SceneFault.TheVariants as faults
 use Rattle.scene_text.specs.declared.grammar.Command.{Command}
-use Rattle.scene_text.specs.declared.grammar.Command.TheVariants.{Open, Pump, Write, Read}
+use Rattle.scene_text.specs.declared.grammar.Command.TheVariants.{Open, Pump, Write, Read, Clc, Deliver, Complete}
 use Rattle.scene_text.specs.declared.limits.TheConstants.{MOST_PUMP_STEPS, MOST_READ_BYTES}
 use Rattle.scene_text.specs.declared.scenes.Scene.{Scene}
-use Rattle.scene_text.specs.Words.{◌>>=◌, words_of, number_in, name_of, end_of, runs_of, bytes_in}
-use Rattle.scene_text.specs.Scenes.{PlainScene, plain, empty_scene, opens, pumps, writes, reads, within_limits, with_sockets}
+use Rattle.scene_text.specs.declared.settings.Draft.{Draft}
+use Rattle.scene_text.specs.Words.{◌>>=◌, words_of, number_in, name_of, side_in, end_of, runs_of, bytes_in}
+use Rattle.scene_text.specs.Scenes.{PlainScene, plain, opens, pumps, writes, reads, clcs, delivers, completes, within_limits, with_sockets}
+use Rattle.scene_text.specs.Settings.{PlainDraft, plain_draft, empty_draft, with_scene, set_said}
 
--- the first words, and what they stand for
+-- the first words of lines at which something is done, and what they stand for
 abbrev pub command_of : List ℕ → Result Command LineKind
 command_of word =
     if bytes_eq word (codes "open") then Ok Open
     else if bytes_eq word (codes "pump") then Ok Pump
     else if bytes_eq word (codes "write") then Ok Write
     else if bytes_eq word (codes "read") then Ok Read
+    else if bytes_eq word (codes "clc") then Ok Clc
+    else if bytes_eq word (codes "deliver") then Ok Deliver
+    else if bytes_eq word (codes "complete") then Ok Complete
     else Err kinds.Word
 
--- the lines, `open NAME`, `pump N`, `write END BYTES` and `read END N`, and what they make of a scene
+-- the lines `open NAME`, `pump N`, `write END BYTES`, `read END N`, `clc NAME SIDE`, `deliver N SIDE` and
+-- `complete N SIDE`, and what they make of a scene; a slot is one of those that are set
 abbrev pub row_of : Command → List (List ℕ) → PlainScene → Result PlainScene LineKind
 row_of Open (name ∷ []) scene = do
   name ← name_of name
@@ -42,20 +48,23 @@ row_of Read (end ∷ len ∷ []) scene = do
   end ← end_of end
   len ← number_in 0 MOST_READ_BYTES len
   Ok (reads end len scene)
+row_of Clc (name ∷ side ∷ []) scene = do
+  name ← name_of name
+  dir ← side_in side
+  Ok (clcs name dir scene)
+row_of Deliver (slot ∷ side ∷ []) scene = do
+  slot ← number_in 1 scene.setup.links slot
+  dir ← side_in side
+  Ok (delivers slot dir scene)
+row_of Complete (slot ∷ side ∷ []) scene = do
+  slot ← number_in 1 scene.setup.links slot
+  dir ← side_in side
+  Ok (completes slot dir scene)
 row_of _ _ scene = Err kinds.Count
-
--- a command and its arguments
-abbrev pub words_said : List (List ℕ) → PlainScene → Result PlainScene LineKind
-words_said [] scene = Err kinds.Word
-words_said (word ∷ arguments) scene = command_of word >>= λ command. row_of command arguments scene
 
 -- a byte that a line may have
 abbrev pub is_printable : ℕ → Bool
 is_printable b = nat_le 32 b && nat_le b 126
-
--- what a line says
-abbrev pub line_said : List ℕ → PlainScene → Result PlainScene LineKind
-line_said line scene = if list_all is_printable line then words_said (words_of line) scene else Err kinds.Char
 
 -- a line that says nothing: it begins with `#`, or holds at most spaces
 abbrev pub is_passed_over : List ℕ → Bool
@@ -67,9 +76,22 @@ abbrev pub limited : Result PlainScene LineKind → Result PlainScene LineFault
 limited (Ok scene) = within_limits scene
 limited (Err kind) = Err (Bad kind)
 
--- the scene after one more line
-abbrev pub after_line : List ℕ → PlainScene → Result PlainScene LineFault
-after_line line scene = if is_passed_over line then Ok scene else limited (line_said line scene)
+-- a line whose first word is not `set`
+abbrev pub line_done : List ℕ → List (List ℕ) → PlainScene → Result PlainScene LineFault
+line_done word arguments scene = limited (command_of word >>= λ command. row_of command arguments scene)
+
+-- the words of a line
+abbrev pub words_said : List (List ℕ) → PlainDraft → Result PlainDraft LineFault
+words_said [] draft = Err (Bad kinds.Word)
+words_said (word ∷ arguments) draft = if bytes_eq word (codes "set") then set_said arguments draft else with_scene draft (line_done word arguments draft.scene)
+
+-- what a line says
+abbrev pub line_said : List ℕ → PlainDraft → Result PlainDraft LineFault
+line_said line draft = if list_all is_printable line then words_said (words_of line) draft else Err (Bad kinds.Char)
+
+-- the draft after one more line
+abbrev pub after_line : List ℕ → PlainDraft → Result PlainDraft LineFault
+after_line line draft = if is_passed_over line then Ok draft else line_said line draft
 
 -- the fault of the line with number n
 abbrev pub fault_at : ℕ → LineFault → SceneFault
@@ -77,20 +99,20 @@ fault_at n NoMemory = faults.NoMemory
 fault_at n (Bad kind) = faults.BadLine n kind
 fault_at n (Passes limit) = faults.TooMany n limit
 
--- the scene after that line
-abbrev pub at_line : ℕ → Result PlainScene LineFault → Result PlainScene SceneFault
-at_line n (Ok scene) = Ok scene
+-- the draft after that line
+abbrev pub at_line : ℕ → Result PlainDraft LineFault → Result PlainDraft SceneFault
+at_line n (Ok draft) = Ok draft
 at_line n (Err fault) = Err (fault_at n fault)
 
--- the scene after more lines, of which the first has number n
-abbrev pub after_lines : ℕ → List (List ℕ) → PlainScene → Result PlainScene SceneFault
-after_lines n [] scene = Ok scene
-after_lines n (line ∷ more) scene = at_line n (after_line line scene) >>= λ after. after_lines (n + 1) more after
+-- the draft after more lines, of which the first has number n
+abbrev pub after_lines : ℕ → List (List ℕ) → PlainDraft → Result PlainDraft SceneFault
+after_lines n [] draft = Ok draft
+after_lines n (line ∷ more) draft = at_line n (after_line line draft) >>= λ after. after_lines (n + 1) more after
 
 -- The scene that a text is, or the fault of its first line that is refused. A line ends at a line
 -- feed or with the text, and a carriage return right before a line feed is no part of it.
 abbrev pub scene_of : List ℕ → Result PlainScene SceneFault
-scene_of text = after_lines 1 (lines text) empty_scene >>= λ scene. Ok (with_sockets scene)
+scene_of text = after_lines 1 (lines text) empty_draft >>= λ draft. Ok (with_sockets draft.scene)
 
 -- this is the fault that there is, unless memory ran out
 abbrev pub IsFault : {X : Type 0} → SceneFault → Result X SceneFault → Type 0
@@ -98,6 +120,12 @@ IsFault faults.NoMemory wanted = Unit {0}
 IsFault (faults.BadLine line kind) wanted = wanted ≡ Err (faults.BadLine line kind)
 IsFault (faults.TooMany line limit) wanted = wanted ≡ Err (faults.TooMany line limit)
 
--- what was read is what there is to read, unless memory ran out
+-- what was read, seen by view, is what there is to read, unless memory ran out
+abbrev pub IsReadAs : {X Y : Type 0} → (X → Y) → Result X SceneFault → Result Y SceneFault → Type 0
+IsReadAs view read wanted = MatchResult read (λ x. wanted ≡ Ok (view x)) (λ fault. IsFault fault wanted)
+
+abbrev pub IsDrafted : Result Draft SceneFault → Result PlainDraft SceneFault → Type 0
+IsDrafted read wanted = IsReadAs plain_draft read wanted
+
 abbrev pub IsRead : Result Scene SceneFault → Result PlainScene SceneFault → Type 0
-IsRead read wanted = MatchResult read (λ scene. wanted ≡ Ok (plain scene)) (λ fault. IsFault fault wanted)
+IsRead read wanted = IsReadAs plain read wanted

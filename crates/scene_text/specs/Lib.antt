@@ -5,4 +5,5 @@ pub mod PostText
 pub mod HistoryText
 pub mod Words
 pub mod Scenes
+pub mod Settings
 pub mod Grammar

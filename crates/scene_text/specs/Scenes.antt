@@ -1,18 +1,21 @@
 -- What a scene is, and what its lines do to it.
 -- A reader learns here how names are numbered, where the bytes of a write lie, and what a scene may hold.
-use Rattle.std.specs.Prelude.{◌≡◌, ℕ, ◌≤◌, max, nat_lt, List, [], ◌∷◌, ◌++◌, length, map, Option, Some, None, Result, Ok, Err, String, string_bytes, if◌then◌else◌}
+use Rattle.std.specs.Prelude.{◌≡◌, ℕ, ◌-◌, ◌^◌, ◌%◌, ◌≤◌, max, nat_lt, List, [], ◌∷◌, ◌++◌, length, map, Option, Some, None, Result, Ok, Err, String, string_bytes, slice_index_or, if◌then◌else◌}
 use Rattle.std.specs.List.{position_or_len, All}
 use Rattle.std.specs.Str.{bytes_eq}
 use Rattle.indexmap.specs.IndexMap.{IndexMap, keys}
+use Rattle.smc_num.specs.declared.Side.{Side}
+use Rattle.smc_num.specs.Names.{at_side}
 use Rattle.pipe_model.specs.declared.setup.Setup.{Setup}
 use Rattle.pipe_model.specs.declared.setup.Room.{Room}
 use Rattle.pipe_model.specs.declared.event.End.{End}
 use Rattle.pipe_model.specs.declared.event.Event.TheVariants as events
 use Rattle.pipe_model.specs.Settings.{default_setup, default_room}
+use Rattle.pipe_model.specs.Words.{rmbs_of, elements_of}
 use Rattle.pipe_model.specs.Fits.{Fits}
 use Rattle.scene_text.specs.declared.faults.LineFault.{LineFault}
 use Rattle.scene_text.specs.declared.faults.LineFault.TheVariants.{NoMemory, Bad, Passes}
-use Rattle.scene_text.specs.declared.limits.TheConstants.{MOST_NAMES, MOST_EVENT_LINES, MOST_PAYLOAD_BYTES, MOST_PUMP_STEPS}
+use Rattle.scene_text.specs.declared.limits.TheConstants.{MOST_NAMES, MOST_EVENT_LINES, MOST_PAYLOAD_BYTES, MOST_PUMP_STEPS, MOST_PREFIX_BITS, MOST_SIZE_CODE, MOST_RMBS, MOST_ELEMENTS, MOST_DEPTH, MOST_NUMBER, MOST_ENTRIES, MOST_BYTES}
 use Rattle.scene_text.specs.declared.scenes.SceneWhat.{SceneWhat}
 use Rattle.scene_text.specs.declared.scenes.SceneWhat.TheVariants.{One, Pump}
 use Rattle.scene_text.specs.declared.scenes.SceneLine.{SceneLine}
@@ -80,6 +83,15 @@ pumps count scene = with_line (Pump count) scene
 abbrev pub writes : NamedEnd → List ℕ → PlainScene → PlainScene
 writes end bytes scene = with_line (One (events.Write (socket_end scene end) (length scene.payload) (length bytes))) (with_bytes bytes (with_name end.name scene))
 
+abbrev pub clcs : List ℕ → Side → PlainScene → PlainScene
+clcs name dir scene = with_line (One (events.Clc (socket_of scene.names name) dir)) (with_name name scene)
+
+abbrev pub delivers : ℕ → Side → PlainScene → PlainScene
+delivers slot dir scene = with_line (One (events.Deliver slot dir)) scene
+
+abbrev pub completes : ℕ → Side → PlainScene → PlainScene
+completes slot dir scene = with_line (One (events.Complete slot dir)) scene
+
 abbrev pub reads : NamedEnd → ℕ → PlainScene → PlainScene
 reads end len scene = with_line (One (events.Read (socket_end scene end) len)) (with_name end.name scene)
 
@@ -100,8 +112,8 @@ unless_passed (Some limit) x = Err (Passes limit)
 abbrev pub within_limits : PlainScene → Result PlainScene LineFault
 within_limits scene = unless_passed (limit_passed (length scene.names) (length scene.lines) (length scene.payload)) scene
 
--- what was made of a scene is what is to be made of it, unless memory ran out
-abbrev pub Makes : {X : Type 0} → Result X LineFault → PlainScene → Result PlainScene LineFault → Type 0
+-- what was made is what is to be made, unless memory ran out
+abbrev pub Makes : {X Y : Type 0} → Result X LineFault → Y → Result Y LineFault → Type 0
 Makes (Ok x) made wanted = wanted ≡ Ok made
 Makes (Err NoMemory) made wanted = Unit {0}
 Makes (Err (Bad kind)) made wanted = wanted ≡ Err (Bad kind)
@@ -122,10 +134,31 @@ WhatFits setup bytes (Pump count) = (1 ≤ count) × (count ≤ MOST_PUMP_STEPS)
 abbrev pub LineFits : Setup → ℕ → SceneLine → Type 0
 LineFits setup bytes line = WhatFits setup bytes line.what
 
--- A scene that a world takes: there is a socket for each name, and each line fits the setup.
+-- a subnet: no bit is set behind the prefix
+abbrev pub IsSubnet : ℕ × ℕ → Type 0
+IsSubnet net = (net.1 ≤ MOST_PREFIX_BITS) × (net.0 % 2 ^ (MOST_PREFIX_BITS - net.1) ≡ 0)
+
+-- the subnet of a side
+abbrev pub subnet_at : Setup → Side → ℕ × ℕ
+subnet_at setup x = at_side x (slice_index_or setup.subnet 0 (0, 0)) (slice_index_or setup.subnet 1 (0, 0))
+
+-- each setting is in its range
+pub record IsInRange (setup : Setup) (room : Room) : Type 0 where
+  pub subnet : (x : Side) → IsSubnet (subnet_at setup x)
+  pub links : setup.links ≡ 1
+  pub size : setup.size_code ≤ MOST_SIZE_CODE
+  pub rmbs : (x : Side) → (1 ≤ rmbs_of setup x) × (rmbs_of setup x ≤ MOST_RMBS)
+  pub elements : (x : Side) → (1 ≤ elements_of setup x) × (elements_of setup x ≤ MOST_ELEMENTS)
+  pub depth : (1 ≤ setup.depth) × (setup.depth ≤ MOST_DEPTH)
+  pub number : (1 ≤ setup.number) × (setup.number ≤ MOST_NUMBER)
+  pub sockets : (1 ≤ setup.sockets) × (setup.sockets ≤ MOST_NAMES)
+  pub entries : (1 ≤ room.entries) × (room.entries ≤ MOST_ENTRIES)
+  pub bytes : (1 ≤ room.bytes) × (room.bytes ≤ MOST_BYTES)
+
+-- A scene that a world takes: each setting is in its range, there is a socket for each name, and each
+-- line fits the setup.
 pub record IsSound (scene : PlainScene) : Type 0 where
   pub limits : IsWithinLimits scene
-  pub setup : scene.setup ≡ record default_setup { sockets = max 1 (length scene.names) }
-  pub room : scene.room ≡ default_room
+  pub settings : IsInRange scene.setup scene.room
   pub sockets : length scene.names ≤ scene.setup.sockets
   pub lines : All (LineFits scene.setup (length scene.payload)) scene.lines

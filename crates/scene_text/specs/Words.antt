@@ -1,6 +1,6 @@
 -- The words of a scene.
 -- A reader learns here how a line is cut into words, and what a number, a name, an end and bytes are.
-use Rattle.std.specs.Prelude.{◌≡◌, ℕ, ◌+◌, ◌*◌, ◌==◌, ◌&&◌, ◌||◌, nat_lt, nat_le, Bool, false, List, [], ◌∷◌, length, filter, replicate, codes, Result, Ok, Err, if◌then◌else◌}
+use Rattle.std.specs.Prelude.{◌≡◌, ℕ, ◌+◌, ◌*◌, ◌-◌, ◌^◌, ◌%◌, ◌==◌, ◌&&◌, ◌||◌, not, nat_lt, nat_le, Bool, true, false, List, [], ◌∷◌, length, filter, replicate, codes, Result, Ok, Err, if◌then◌else◌}
 use Rattle.std.specs.List.{slice_split, list_all, flat_map}
 use Rattle.std.specs.Char.{digit_value, is_ascii_lowercase, is_ascii_digit}
 use Rattle.std.specs.Str.{bytes_eq}
@@ -12,7 +12,7 @@ use Rattle.scene_text.specs.declared.faults.LineFault.{LineFault}
 use Rattle.scene_text.specs.declared.faults.LineFault.TheVariants.{NoMemory, Bad, Passes}
 use Rattle.scene_text.specs.declared.words.NamedEnd.{NamedEnd as LentEnd}
 use Rattle.scene_text.specs.declared.words.Run.{Run}
-use Rattle.scene_text.specs.declared.limits.TheConstants.{MOST_DIGITS, MOST_NAME_BYTES}
+use Rattle.scene_text.specs.declared.limits.TheConstants.{MOST_DIGITS, MOST_NAME_BYTES, MOST_PREFIX_BITS}
 
 -- goes on with a value; a fault stays
 infixl 10 ◌>>=◌
@@ -44,6 +44,9 @@ comma = 44
 
 abbrev pub point : ℕ
 point = 46
+
+abbrev pub slash : ℕ
+slash = 47
 
 abbrev pub underscore : ℕ
 underscore = 95
@@ -85,6 +88,16 @@ name_of word = if is_name word then Ok word else Err kinds.Name
 -- the side with this letter
 abbrev pub side_of : ℕ → Result Side LineKind
 side_of letter = if letter == 65 then Ok A else if letter == 66 then Ok B else Err kinds.Side
+
+-- a side alone
+abbrev pub side_in : List ℕ → Result Side LineKind
+side_in [] = Err kinds.Side
+side_in (letter ∷ []) = side_of letter
+side_in (letter ∷ b ∷ bs) = Err kinds.Side
+
+-- yes or no
+abbrev pub answer_of : List ℕ → Result Bool LineKind
+answer_of word = if bytes_eq word (codes "yes") then Ok true else if bytes_eq word (codes "no") then Ok false else Err kinds.Answer
 
 -- one end of the socket with this name
 pub record NamedEnd : Type 0 where
@@ -152,3 +165,44 @@ run_bytes run = replicate run.count run.byte
 
 abbrev pub bytes_in : List Run → List ℕ
 bytes_in runs = flat_map run_bytes runs
+
+-- whatever is wrong in a subnet is one fault
+abbrev pub as_subnet : Result ℕ LineKind → Result ℕ LineKind
+as_subnet (Ok n) = Ok n
+as_subnet (Err kind) = Err kinds.Subnet
+
+-- an address of four numbers, the first of which has the highest bits
+abbrev pub address_with : List ℕ → List ℕ → List ℕ → List ℕ → Result ℕ LineKind
+address_with a b c d = do
+  a ← as_subnet (number_in 0 255 a)
+  b ← as_subnet (number_in 0 255 b)
+  c ← as_subnet (number_in 0 255 c)
+  d ← as_subnet (number_in 0 255 d)
+  Ok (((a * 256 + b) * 256 + c) * 256 + d)
+
+abbrev pub address_in : List (List ℕ) → Result ℕ LineKind
+address_in (a ∷ b ∷ c ∷ d ∷ []) = address_with a b c d
+address_in _ = Err kinds.Subnet
+
+-- an address: four numbers with points between them
+abbrev pub address_of : List ℕ → Result ℕ LineKind
+address_of word = address_in (parts point word)
+
+-- whether an address has a bit behind its prefix
+abbrev pub has_host_bits : ℕ → ℕ → Bool
+has_host_bits address prefix = not (address % 2 ^ (MOST_PREFIX_BITS - prefix) == 0)
+
+-- an address and the length of its prefix, which leaves no bit behind it
+abbrev pub subnet_with : List ℕ → List ℕ → Result (ℕ × ℕ) LineKind
+subnet_with address prefix = do
+  address ← address_of address
+  prefix ← as_subnet (number_in 0 MOST_PREFIX_BITS prefix)
+  if has_host_bits address prefix then Err kinds.Subnet else Ok (address, prefix)
+
+abbrev pub subnet_in : List (List ℕ) → Result (ℕ × ℕ) LineKind
+subnet_in (address ∷ prefix ∷ []) = subnet_with address prefix
+subnet_in _ = Err kinds.Subnet
+
+-- a subnet: an address, a slash and the length of the prefix
+abbrev pub subnet_of : List ℕ → Result (ℕ × ℕ) LineKind
+subnet_of word = subnet_in (parts slash word)

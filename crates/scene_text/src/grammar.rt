@@ -3,33 +3,48 @@
 ghost use Rattle.std.specs.Prelude.{◌≡◌, ◌==◌, ◌<◌, ◌^◌, [], ◌∷◌, length, map, OnOk, IfOk, IfErr, Ok};
 ghost use Rattle.std.specs.List.{list_all};
 ghost use Rattle.std.specs.Str.Lines.{strip_carriage_return, lines};
-ghost use Rattle.scene_text.specs.Scenes.{plain, empty_scene, Makes, IsWithinLimits, IsSound};
-ghost use Rattle.scene_text.specs.Grammar.{command_of, row_of, is_printable, is_passed_over, limited, after_line, fault_at, at_line, after_lines, scene_of, IsFault, IsRead};
+ghost use Rattle.scene_text.specs.Scenes.{plain, Makes, IsWithinLimits, IsSound};
+ghost use Rattle.scene_text.specs.Settings.{plain_draft, empty_draft};
+ghost use Rattle.scene_text.specs.Grammar.{command_of, row_of, is_printable, is_passed_over, limited, line_done, words_said, after_line, fault_at, at_line, after_lines, scene_of, IsFault, IsDrafted, IsRead};
 
 use crate::faults::{LineFault, LineKind, SceneFault};
 use crate::limits::{MOST_PUMP_STEPS, MOST_READ_BYTES};
 use crate::scenes::Scene;
-use crate::words::{cut, end_of, name_of, number_in, runs_of, words_of};
+use crate::settings::Draft;
+use crate::words::{cut, end_of, name_of, number_in, runs_of, side_in, small_in, words_of};
 use std::alloc::Global;
 
-/// What the first word of a line stands for.
+/// What the first word of a line stands for, unless it is `set`.
 #[derive(Clone, Copy, Debug, PartialEq, Eq)]
 enum Command {
     Open,
     Pump,
     Write,
     Read,
+    Clc,
+    Deliver,
+    Complete,
 }
 
 fn command_of(word: &[u8]) -> Result<Command, LineKind>
     ensures { result ≡ command_of word.now }
 {
-    match word {
-        b"open" => Ok(Command::Open),
-        b"pump" => Ok(Command::Pump),
-        b"write" => Ok(Command::Write),
-        b"read" => Ok(Command::Read),
-        _ => Err(LineKind::Word),
+    if word == b"open".as_slice() {
+        Ok(Command::Open)
+    } else if word == b"pump".as_slice() {
+        Ok(Command::Pump)
+    } else if word == b"write".as_slice() {
+        Ok(Command::Write)
+    } else if word == b"read".as_slice() {
+        Ok(Command::Read)
+    } else if word == b"clc".as_slice() {
+        Ok(Command::Clc)
+    } else if word == b"deliver".as_slice() {
+        Ok(Command::Deliver)
+    } else if word == b"complete".as_slice() {
+        Ok(Command::Complete)
+    } else {
+        Err(LineKind::Word)
     }
 }
 
@@ -71,6 +86,36 @@ fn take_read(alloc: Global, scene: &mut Scene, end: &[u8], len: &[u8]) -> Result
     scene.read(alloc, end, len)
 }
 
+/// The line `clc NAME SIDE`.
+fn take_clc(alloc: Global, scene: &mut Scene, name: &[u8], side: &[u8]) -> Result<(), LineFault>
+    requires { IsWithinLimits (plain scene.old) }
+    ensures { Makes result (plain scene.new) (limited (row_of Command.Clc (name.now ∷ side.now ∷ []) (plain scene.old))) }
+{
+    let name = name_of(name)?;
+    let dir = side_in(side)?;
+    scene.clc(alloc, name, dir)
+}
+
+/// The line `deliver N SIDE`.
+fn take_deliver(scene: &mut Scene, slot: &[u8], side: &[u8]) -> Result<(), LineFault>
+    requires { IsWithinLimits (plain scene.old) }
+    ensures { Makes result (plain scene.new) (limited (row_of Command.Deliver (slot.now ∷ side.now ∷ []) (plain scene.old))) }
+{
+    let slot = small_in(slot, 1, scene.setup.links)?;
+    let dir = side_in(side)?;
+    scene.deliver(slot, dir)
+}
+
+/// The line `complete N SIDE`.
+fn take_complete(scene: &mut Scene, slot: &[u8], side: &[u8]) -> Result<(), LineFault>
+    requires { IsWithinLimits (plain scene.old) }
+    ensures { Makes result (plain scene.new) (limited (row_of Command.Complete (slot.now ∷ side.now ∷ []) (plain scene.old))) }
+{
+    let slot = small_in(slot, 1, scene.setup.links)?;
+    let dir = side_in(side)?;
+    scene.complete(slot, dir)
+}
+
 /// Does to a scene what a line says.
 fn take(
     alloc: Global,
@@ -86,6 +131,9 @@ fn take(
         (Command::Pump, [count]) => take_pump(scene, count),
         (Command::Write, [end, bytes]) => take_write(alloc, scene, end, bytes),
         (Command::Read, [end, len]) => take_read(alloc, scene, end, len),
+        (Command::Clc, [name, side]) => take_clc(alloc, scene, name, side),
+        (Command::Deliver, [slot, side]) => take_deliver(scene, slot, side),
+        (Command::Complete, [slot, side]) => take_complete(scene, slot, side),
         _ => Err(LineFault::Bad(LineKind::Count)),
     }
 }
@@ -113,10 +161,42 @@ pub fn are_printable(line: &[u8]) -> bool
     line.iter().all(|byte| b' ' <= *byte && *byte <= b'~')
 }
 
-/// Reads one line.
-fn read_line(alloc: Global, scene: &mut Scene, line: &[u8]) -> Result<(), LineFault>
+/// Reads a line whose first word is not `set`.
+fn read_done(
+    alloc: Global,
+    scene: &mut Scene,
+    word: &[u8],
+    arguments: &[&[u8]],
+) -> Result<(), LineFault>
     requires { IsWithinLimits (plain scene.old) }
-    ensures { Makes result (plain scene.new) (after_line line.now (plain scene.old)) }
+    ensures { Makes result (plain scene.new) (line_done word.now (map (λ w. w.now) arguments.now) (plain scene.old)) }
+{
+    let command = command_of(word)?;
+    take(alloc, scene, command, arguments)
+}
+
+/// Reads the words of a line.
+fn read_words(alloc: Global, draft: &mut Draft, words: &[&[u8]]) -> Result<(), LineFault>
+    requires { IsWithinLimits (plain_draft draft.old).scene }
+    ensures { Makes result (plain_draft draft.new) (words_said (map (λ w. w.now) words.now) (plain_draft draft.old)) }
+{
+    match words {
+        // Such a line has been passed over.
+        [] => Err(LineFault::Bad(LineKind::Word)),
+        [word, arguments @ ..] => {
+            if *word == b"set".as_slice() {
+                draft.take_set(alloc, arguments)
+            } else {
+                read_done(alloc, &mut draft.scene, word, arguments)
+            }
+        }
+    }
+}
+
+/// Reads one line.
+fn read_line(alloc: Global, draft: &mut Draft, line: &[u8]) -> Result<(), LineFault>
+    requires { IsWithinLimits (plain_draft draft.old).scene }
+    ensures { Makes result (plain_draft draft.new) (after_line line.now (plain_draft draft.old)) }
 {
     if is_passed_over(line) {
         return Ok(());
@@ -125,14 +205,7 @@ fn read_line(alloc: Global, scene: &mut Scene, line: &[u8]) -> Result<(), LineFa
         return Err(LineFault::Bad(LineKind::Char));
     }
     let words = words_of(alloc, line)?;
-    match words.as_slice() {
-        // Such a line has been passed over.
-        [] => Err(LineFault::Bad(LineKind::Word)),
-        [word, arguments @ ..] => {
-            let command = command_of(word)?;
-            take(alloc, scene, command, arguments)
-        }
-    }
+    read_words(alloc, draft, &words)
 }
 
 /// What a fault is in the line with this number.
@@ -159,34 +232,34 @@ pub fn without_return(line: &[u8]) -> &[u8]
 /// Reads the line with this number.
 fn read_line_at(
     alloc: Global,
-    scene: &mut Scene,
+    draft: &mut Draft,
     number: u32,
     line: &[u8],
 ) -> Result<(), SceneFault>
-    requires { IsWithinLimits (plain scene.old) }
-    ensures ok { OnOk result (at_line number (after_line line.now (plain scene.old)) ≡ Ok (plain scene.new)) }
-    ensures err { IfErr result (λ fault. IsFault fault (at_line number (after_line line.now (plain scene.old)))) }
+    requires { IsWithinLimits (plain_draft draft.old).scene }
+    ensures ok { OnOk result (at_line number (after_line line.now (plain_draft draft.old)) ≡ Ok (plain_draft draft.new)) }
+    ensures err { IfErr result (λ fault. IsFault fault (at_line number (after_line line.now (plain_draft draft.old)))) }
 {
-    read_line(alloc, scene, line).map_err(|fault| fault_at(number, fault))
+    read_line(alloc, draft, line).map_err(|fault| fault_at(number, fault))
 }
 
 /// Reads the lines of a text.
-fn read_lines(alloc: Global, bytes: &[u8]) -> Result<Scene, SceneFault>
+fn read_lines(alloc: Global, bytes: &[u8]) -> Result<Draft, SceneFault>
     requires { length bytes.now < 2 ^ 32 }
-    ensures { IsRead result (after_lines 1 (lines bytes.now) empty_scene) }
+    ensures { IsDrafted result (after_lines 1 (lines bytes.now) empty_draft) }
 {
-    let mut scene = Scene::empty(alloc);
+    let mut draft = Draft::empty(alloc);
     let mut number = 0u32;
     let mut rest = bytes;
     while let Some((line, after)) = cut(rest, b'\n') {
         number += 1;
-        read_line_at(alloc, &mut scene, number, without_return(line))?;
+        read_line_at(alloc, &mut draft, number, without_return(line))?;
         rest = after;
     }
     if !rest.is_empty() {
-        read_line_at(alloc, &mut scene, number + 1, rest)?;
+        read_line_at(alloc, &mut draft, number + 1, rest)?;
     }
-    Ok(scene)
+    Ok(draft)
 }
 
 /// The scene that a text of fewer than 2^32 bytes is.
@@ -200,7 +273,8 @@ pub fn read_scene(alloc: Global, bytes: &[u8]) -> Result<Scene, SceneFault>
 
     ensures sound { IfOk result (λ scene. IsSound (plain scene)) }
 {
-    let mut scene = read_lines(alloc, bytes)?;
+    let draft = read_lines(alloc, bytes)?;
+    let mut scene = draft.scene;
     scene.count_sockets();
     Ok(scene)
 }

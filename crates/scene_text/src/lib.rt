@@ -9,6 +9,7 @@ mod faults;
 mod grammar;
 pub mod limits;
 mod scenes;
+mod settings;
 mod words;
 
 pub use faults::{LineFault, LineKind, SceneFault};

@@ -3,13 +3,13 @@
 ghost use Rattle.std.specs.Prelude.{◌≡◌, ◌≤◌, ◌+◌, ◌++◌, length, map, IfOk, IfErr, OnOk, Some, None, nat_le, if◌then◌else◌};
 ghost use Rattle.scene_text.specs.declared.faults.LineFault.TheVariants.{NoMemory as NoRoom};
 ghost use Rattle.scene_text.specs.Words.{named_end, bytes_in};
-ghost use Rattle.scene_text.specs.Scenes.{plain, names_in, empty_scene, socket_of, mentioned, with_name, with_line, opens, pumps, writes, reads, with_sockets, limit_passed, unless_passed, within_limits, Makes, IsWithinLimits};
+ghost use Rattle.scene_text.specs.Scenes.{plain, names_in, empty_scene, socket_of, mentioned, with_name, with_line, opens, pumps, writes, reads, clcs, delivers, completes, with_sockets, limit_passed, unless_passed, within_limits, Makes, IsWithinLimits};
 
 use crate::faults::LineFault;
 use crate::limits::{MOST_EVENT_LINES, MOST_NAMES, MOST_PAYLOAD_BYTES};
 use crate::words::{NamedEnd, Run};
 use indexmap::IndexMap;
-use pipe_model::{End, Event, Room, Setup};
+use pipe_model::{End, Event, Room, Setup, Side};
 use std::alloc::{AllocError, Global};
 
 /// What is done at a line of a scene.
@@ -189,6 +189,31 @@ impl Scene {
         let s = self.socket(alloc, end.name)?;
         let end = End { side: end.side, s };
         self.add(SceneWhat::One(Event::Read { end, len }))
+    }
+
+    /// The line `clc NAME SIDE`.
+    pub(crate) fn clc(&mut self, alloc: Global, name: &str, dir: Side) -> Result<(), LineFault>
+        requires { IsWithinLimits (plain self.old) }
+        ensures { Makes result (plain self.new) (within_limits (clcs name.now dir (plain self.old))) }
+    {
+        let s = self.socket(alloc, name)?;
+        self.add(SceneWhat::One(Event::Clc { s, dir }))
+    }
+
+    /// The line `deliver N SIDE`.
+    pub(crate) fn deliver(&mut self, slot: u8, dir: Side) -> Result<(), LineFault>
+        requires { IsWithinLimits (plain self.old) }
+        ensures { Makes result (plain self.new) (within_limits (delivers slot dir (plain self.old))) }
+    {
+        self.add(SceneWhat::One(Event::Deliver { slot, dir }))
+    }
+
+    /// The line `complete N SIDE`.
+    pub(crate) fn complete(&mut self, slot: u8, dir: Side) -> Result<(), LineFault>
+        requires { IsWithinLimits (plain self.old) }
+        ensures { Makes result (plain self.new) (within_limits (completes slot dir (plain self.old))) }
+    {
+        self.add(SceneWhat::One(Event::Complete { slot, dir }))
     }
 
     /// Sets the number of sockets: as many as there are names, but at least one.

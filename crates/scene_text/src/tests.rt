@@ -1,5 +1,5 @@
 use super::*;
-use pipe_model::{End, Event, Setup, Side};
+use pipe_model::{End, Event, Room, Setup, Side};
 use std::alloc::{AllocError, Global};
 use std::test::Fail;
 
@@ -28,6 +28,16 @@ fn lines(alloc: Global, line: &str, count: u32) -> Result<String, AllocError> {
     Ok(text)
 }
 
+/// Lines with so many names.
+fn openings(alloc: Global, count: u32) -> Result<String, AllocError> {
+    let mut text = String::new(alloc);
+    for s in 0..count {
+        let line = format!(in alloc; "open s{s}\n")?;
+        text.push_str(&line)?;
+    }
+    Ok(text)
+}
+
 #[test]
 fn refusals(rt: HostRuntime) -> Result<(), Fail> {
     let bad = [
@@ -38,7 +48,18 @@ fn refusals(rt: HostRuntime) -> Result<(), Fail> {
         ("shout \u{7f}", 1, LineKind::Char),
         ("# \u{ff}\n\r\n   \n # x", 4, LineKind::Word),
         ("shout s s s", 1, LineKind::Word),
-        ("set", 1, LineKind::Word),
+        ("set foo 1 2 3", 1, LineKind::Word),
+        ("set links 1", 1, LineKind::Word),
+        ("set", 1, LineKind::Count),
+        ("set size", 1, LineKind::Count),
+        ("set size A 1", 1, LineKind::Count),
+        ("set capable no", 1, LineKind::Count),
+        ("complete 1", 1, LineKind::Count),
+        ("pump 1\nset size", 2, LineKind::Count),
+        ("pump 1\nset size x", 2, LineKind::Order),
+        ("set size 1\nset size x", 2, LineKind::Again),
+        ("set capable A yes\nset capable A maybe", 2, LineKind::Again),
+        ("set rmbs A 1\nset rmbs X 1", 2, LineKind::Side),
         ("open", 1, LineKind::Count),
         ("pump 1 2", 1, LineKind::Count),
         ("read X.s", 1, LineKind::Count),
@@ -49,6 +70,21 @@ fn refusals(rt: HostRuntime) -> Result<(), Fail> {
         ("read A.S x", 1, LineKind::Name),
         ("read X.s x", 1, LineKind::Side),
         ("write As 6", 1, LineKind::Side),
+        ("set capable X yes", 1, LineKind::Side),
+        ("deliver 1 X", 1, LineKind::Side),
+        ("complete 1 AB", 1, LineKind::Side),
+        ("clc s C", 1, LineKind::Side),
+        ("clc S C", 1, LineKind::Name),
+        ("deliver x X", 1, LineKind::Number),
+        ("set size -", 1, LineKind::Number),
+        ("set capable B Yes", 1, LineKind::Answer),
+        ("set subnet A 10.0.0.0", 1, LineKind::Subnet),
+        ("set subnet A 10.0.0/24", 1, LineKind::Subnet),
+        ("set subnet A 10.0.0.0.0/24", 1, LineKind::Subnet),
+        ("set subnet A 10.0.0.0/24/1", 1, LineKind::Subnet),
+        ("set subnet A 10.0.0.0/33", 1, LineKind::Subnet),
+        ("set subnet A 10.0.256.0/24", 1, LineKind::Subnet),
+        ("set subnet A 10.0.0.1/24", 1, LineKind::Subnet),
         ("pump x", 1, LineKind::Number),
         ("pump 0000000001", 1, LineKind::Number),
         ("read A.s -1", 1, LineKind::Number),
@@ -56,7 +92,18 @@ fn refusals(rt: HostRuntime) -> Result<(), Fail> {
         ("write A.s 00*0", 1, LineKind::Bytes),
         ("write A.s -,68", 1, LineKind::Bytes),
         ("pump 0", 1, LineKind::Range),
-        ("pump 10", 1, LineKind::Range),
+        ("pump 10001", 1, LineKind::Range),
+        ("set size 6", 1, LineKind::Range),
+        ("set rmbs A 2", 1, LineKind::Range),
+        ("set elements B 33", 1, LineKind::Range),
+        ("set elements B 0", 1, LineKind::Range),
+        ("set depth 2", 1, LineKind::Range),
+        ("set number 0", 1, LineKind::Range),
+        ("set number 65536", 1, LineKind::Range),
+        ("set entries 262145", 1, LineKind::Range),
+        ("set bytes 67108865", 1, LineKind::Range),
+        ("deliver 2 X", 1, LineKind::Range),
+        ("complete 0 A", 1, LineKind::Range),
         ("read A.s 1048577", 1, LineKind::Range),
     ];
     for (text, line, kind) in bad {
@@ -64,16 +111,16 @@ fn refusals(rt: HostRuntime) -> Result<(), Fail> {
         let read = read_scene(rt.alloc(), text.as_bytes());
         assert_eq!(rt; refused(read), Some((line, kind)), "{text:?}");
     }
-    let many = lines(rt.alloc(), "pump 1\n", 1001)?;
+    let names = openings(rt.alloc(), 257)?;
+    let many = lines(rt.alloc(), "pump 1\n", 65_537)?;
     let limits = [
-        ("open s\nopen t", 2, 1),
-        ("open s\nwrite A.t 00*65537", 2, 1),
-        (many.as_str(), 1001, 1000),
-        ("write A.s 00*65536\nwrite B.s ff", 2, 65536),
-        ("write A.s 00*999999999,00*999999999", 1, 65536),
+        (names.as_str(), 257, 256),
+        (many.as_str(), 65_537, 65_536),
+        ("write A.s 00*16777216\nwrite B.s ff", 2, 16_777_216),
+        ("write A.s 00*999999999,00*999999999", 1, 16_777_216),
     ];
     for (text, line, limit) in limits {
-        assert!(rt; text.len() < 10_000);
+        assert!(rt; text.len() < 1_000_000);
         let read = read_scene(rt.alloc(), text.as_bytes());
         assert_eq!(rt; passed(read), Some((line, limit)));
     }
@@ -131,5 +178,48 @@ fn scenes(rt: HostRuntime) -> Result<(), Fail> {
         scene.payload.as_slice(),
         [0x61, 0x61, 0x61, 0xaa, 0, 0].as_slice()
     );
+    Ok(())
+}
+
+#[test]
+fn settings(rt: HostRuntime) -> Result<(), Fail> {
+    let text =
+        "set size 5\nset capable B no\nset subnet A 10.1.0.0/16\nset rmbs A 1\nset elements B 32\n# set\n\nset depth 1\nset number 65535\nset entries 262144\nset bytes 67108864\nclc s B\ndeliver 1 A\ncomplete 001 B";
+    assert!(rt; text.len() < 1_000);
+    let scene = read_scene(rt.alloc(), text.as_bytes())?;
+    let setup = Setup {
+        capable: [true, false],
+        subnet: [(0x0a01_0000, 16), (0x0a00_0000, 24)],
+        size_code: 5,
+        elements: [4, 32],
+        number: 65_535,
+        ..Setup::default()
+    };
+    assert_eq!(rt; scene.setup, setup);
+    let room = Room {
+        entries: 262_144,
+        bytes: 67_108_864,
+    };
+    assert_eq!(rt; scene.room, room);
+    let events = [
+        Event::Clc { s: 0, dir: Side::B },
+        Event::Deliver {
+            slot: 1,
+            dir: Side::A,
+        },
+        Event::Complete {
+            slot: 1,
+            dir: Side::B,
+        },
+    ];
+    let lines = events.map(|event| SceneLine {
+        what: SceneWhat::One(event),
+    });
+    assert_eq!(rt; scene.lines.as_slice(), lines.as_slice());
+
+    let text = "set subnet A 0.0.0.0/0\nset subnet B 255.255.255.255/32\n";
+    assert!(rt; text.len() < 100);
+    let scene = read_scene(rt.alloc(), text.as_bytes())?;
+    assert_eq!(rt; scene.setup.subnet, [(0, 0), (0xffff_ffff, 32)]);
     Ok(())
 }

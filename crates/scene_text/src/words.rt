@@ -4,10 +4,10 @@
 
 ghost use Rattle.std.specs.Prelude.{◌≡◌, ◌==◌, ◌<◌, ◌≤◌, ◌^◌, ◌∷◌, ◌++◌, [], IfOk, OnOk, MatchOption, IfSome, map, length, position, filter, nat_lt};
 ghost use Rattle.std.specs.List.{list_all};
-ghost use Rattle.scene_text.specs.Words.{map_ok, Gives, parts, words_of, number_of, number_in, is_name_byte, is_name, name_of, side_of, named_end, end_of, byte_of, times_of, run_of, runs_of};
+ghost use Rattle.scene_text.specs.Words.{map_ok, Gives, parts, words_of, number_of, number_in, is_name_byte, is_name, name_of, side_of, side_in, answer_of, as_subnet, address_with, address_of, has_host_bits, subnet_with, subnet_in, subnet_of, named_end, end_of, byte_of, times_of, run_of, runs_of};
 
 use crate::faults::{LineFault, LineKind};
-use crate::limits::{MOST_DIGITS, MOST_NAME_BYTES};
+use crate::limits::{MOST_DIGITS, MOST_NAME_BYTES, MOST_PREFIX_BITS};
 use smc_num::Side;
 use std::alloc::{AllocError, Global};
 
@@ -55,6 +55,31 @@ pub(crate) fn number_in(word: &[u8], least: u32, most: u32) -> Result<u32, LineK
     let n = number_of(word)?;
     if least <= n && n <= most {
         Ok(n)
+    } else {
+        Err(LineKind::Range)
+    }
+}
+
+/// The same of numbers of 8 bits.
+pub(crate) fn small_in(word: &[u8], least: u8, most: u8) -> Result<u8, LineKind>
+    ensures read { result ≡ number_in least most word.now }
+    ensures range { IfOk result (λ n. n ≤ most) }
+{
+    let n = number_of(word)?;
+    if least as u32 <= n && n <= most as u32 {
+        Ok(n as u8)
+    } else {
+        Err(LineKind::Range)
+    }
+}
+
+/// The same of numbers of 16 bits.
+pub(crate) fn short_in(word: &[u8], least: u16, most: u16) -> Result<u16, LineKind>
+    ensures { result ≡ number_in least most word.now }
+{
+    let n = number_of(word)?;
+    if least as u32 <= n && n <= most as u32 {
+        Ok(n as u16)
     } else {
         Err(LineKind::Range)
     }
@@ -108,6 +133,27 @@ fn side_of(letter: u8) -> Result<Side, LineKind>
         b'A' => Ok(Side::A),
         b'B' => Ok(Side::B),
         _ => Err(LineKind::Side),
+    }
+}
+
+/// A side alone.
+pub(crate) fn side_in(word: &[u8]) -> Result<Side, LineKind>
+    ensures { result ≡ side_in word.now }
+{
+    match word {
+        [letter] => side_of(*letter),
+        _ => Err(LineKind::Side),
+    }
+}
+
+/// Yes or no.
+pub(crate) fn answer_of(word: &[u8]) -> Result<bool, LineKind>
+    ensures { result ≡ answer_of word.now }
+{
+    match word {
+        b"yes" => Ok(true),
+        b"no" => Ok(false),
+        _ => Err(LineKind::Answer),
     }
 }
 
@@ -218,4 +264,90 @@ pub fn words_of<'a>(alloc: Global, line: &'a [u8]) -> Result<Vec<&'a [u8]>, Allo
     }
     push_word(&mut words, rest)?;
     Ok(words)
+}
+
+/// The parts of a text between the bytes of one kind.
+fn parts_of<'a>(alloc: Global, text: &'a [u8], mark: u8) -> Result<Vec<&'a [u8]>, AllocError>
+    ensures { IfOk result (λ found. map (λ p. p.now) found.items ≡ parts mark text.now) }
+{
+    let mut found = Vec::new(alloc);
+    let mut rest = text;
+    while let Some((part, after)) = cut(rest, mark) {
+        found.push(part)?;
+        rest = after;
+    }
+    found.push(rest)?;
+    Ok(found)
+}
+
+/// A number of a subnet, at most so large.
+fn subnet_part(word: &[u8], most: u8) -> Result<u8, LineKind>
+    ensures read { result ≡ as_subnet (number_in 0 most word.now) }
+    ensures range { IfOk result (λ n. n ≤ most) }
+{
+    match small_in(word, 0, most) {
+        Ok(n) => Ok(n),
+        Err(_) => Err(LineKind::Subnet),
+    }
+}
+
+/// An address of four numbers.
+fn address_with(a: &[u8], b: &[u8], c: &[u8], d: &[u8]) -> Result<u32, LineKind>
+    ensures { result ≡ address_with a.now b.now c.now d.now }
+{
+    let a = subnet_part(a, 255)?;
+    let b = subnet_part(b, 255)?;
+    let c = subnet_part(c, 255)?;
+    let d = subnet_part(d, 255)?;
+    Ok(((a as u32 * 256 + b as u32) * 256 + c as u32) * 256 + d as u32)
+}
+
+/// An address: four numbers with points between them.
+fn address_of(alloc: Global, word: &[u8]) -> Result<u32, LineFault>
+    ensures { Gives (λ n. n) result (address_of word.now) }
+{
+    let numbers = parts_of(alloc, word, b'.')?;
+    match numbers.as_slice() {
+        [a, b, c, d] => Ok(address_with(a, b, c, d)?),
+        _ => Err(LineFault::Bad(LineKind::Subnet)),
+    }
+}
+
+/// Whether an address has a bit behind its prefix.
+#[tactic(auto, using(crate::proofs::Numbers::host_power, crate::proofs::Numbers::host_power_is_some))]
+fn has_host_bits(address: u32, prefix: u8) -> bool
+    requires { prefix ≤ MOST_PREFIX_BITS }
+    ensures { result ≡ has_host_bits address prefix }
+{
+    address as u64 % 2u64.pow((MOST_PREFIX_BITS - prefix) as u32) != 0
+}
+
+/// The subnet of an address and the length of the prefix.
+fn subnet_with(alloc: Global, address: &[u8], prefix: &[u8]) -> Result<(u32, u8), LineFault>
+    ensures { Gives (λ net. net) result (subnet_with address.now prefix.now) }
+{
+    let address = address_of(alloc, address)?;
+    let prefix = subnet_part(prefix, MOST_PREFIX_BITS)?;
+    if has_host_bits(address, prefix) {
+        return Err(LineFault::Bad(LineKind::Subnet));
+    }
+    Ok((address, prefix))
+}
+
+/// The subnet of these two parts.
+fn subnet_in(alloc: Global, halves: &[&[u8]]) -> Result<(u32, u8), LineFault>
+    ensures { Gives (λ net. net) result (subnet_in (map (λ p. p.now) halves.now)) }
+{
+    match halves {
+        [address, prefix] => subnet_with(alloc, address, prefix),
+        _ => Err(LineFault::Bad(LineKind::Subnet)),
+    }
+}
+
+/// A subnet: an address, a slash and the length of the prefix.
+pub(crate) fn subnet_of(alloc: Global, word: &[u8]) -> Result<(u32, u8), LineFault>
+    ensures { Gives (λ net. net) result (subnet_of word.now) }
+{
+    let halves = parts_of(alloc, word, b'/')?;
+    subnet_in(alloc, &halves)
 }

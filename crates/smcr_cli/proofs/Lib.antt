@@ -1,5 +1,6 @@
 pub mod RunsOfBytes
 pub mod Runs
+pub mod Worlds
 pub mod Commands
 pub mod Inputs
 pub mod Parts

@@ -16,7 +16,7 @@ refused-next None actor w fault e = refl
 refused-next (Some event) actor w fault e = refused-or (refusal w event) (reply_to w event) (stepped actor event w) w fault e
 
 pub refused-pump : (actor : ℕ) (w : Seen) (fault : StepFault) → pump_answer w ≡ Err fault → after_pump actor w ≡ w
-refused-pump actor w fault e = refused-next (next_event w.conn) actor w fault e
+refused-pump actor w fault e = refused-next (next_event w) actor w fault e
 
 -- where nothing is due, nothing changes
 idle-or : (r : Option StepFault) (reply : Reply) (new old : Seen) → some_answer (answer_or r reply) ≡ Ok None → world_or r new old ≡ old
@@ -28,7 +28,7 @@ idle-next None actor w e = refl
 idle-next (Some event) actor w e = idle-or (refusal w event) (reply_to w event) (stepped actor event w) w e
 
 pub idle-pump : (actor : ℕ) (w : Seen) → pump_answer w ≡ Ok None → after_pump actor w ≡ w
-idle-pump actor w e = idle-next (next_event w.conn) actor w e
+idle-pump actor w e = idle-next (next_event w) actor w e
 
 -- setup and payload stay
 scene-or : (r : Option StepFault) (actor : ℕ) (event : Event) (w : Seen) → SameScene w (world_or r (stepped actor event w) w)
@@ -43,7 +43,7 @@ scene-next None actor w = record { setup = refl; payload = refl }
 scene-next (Some event) actor w = scene-step actor event w
 
 pub scene-pump : (actor : ℕ) (w : Seen) → SameScene w (after_pump actor w)
-scene-pump actor w = scene-next (next_event w.conn) actor w
+scene-pump actor w = scene-next (next_event w) actor w
 
 pub scene-more : (a b c : Seen) → SameScene a b → SameScene b c → SameScene a c
 scene-more a b c p q = record { setup = q.setup ∙ p.setup; payload = q.payload ∙ p.payload }

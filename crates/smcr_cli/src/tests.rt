@@ -13,7 +13,7 @@ struct Case {
 
 const USAGE: &[u8] = b"usage: smcr run|show\n";
 
-const CASES: [Case; 20] = [
+const CASES: [Case; 26] = [
     Case {
         words: &["run"],
         input: b"",
@@ -54,11 +54,11 @@ const CASES: [Case; 20] = [
         words: &["run"],
         input: b"open s\npump 9\nwrite A.s 68,69\npump 2\nread B.s 9\n",
         status: Status::Ok,
-        text: b"1 main open s: opened\n2 main write A.s 68,69: wrote 2\n3 main deliver 1 A: landed 2.1\n4 main deliver 1 A: landed 2.2\n5 main read B.s 9: data 68,69\nsocket s A wrote 2 read 0 B wrote 0 read 2\nok 5\n",
+        text: b"1 main open s: opened\n  clc A s proposal\n2 main clc s A: sent accept\n  clc B s accept first 1.1.1 key 513 rmb 1 index 1 token 1\n3 main clc s B: sent confirm\n  clc A s confirm first 1.1.1 key 257 rmb 1 index 1 token 1\n4 main clc s A: sent confirm link\n  llc B 1.1.1 confirm link 1\n5 main deliver 1 B: landed 4.1\n  llc A 1.1.1 confirm link reply 1\n6 main deliver 1 A: landed 5.1\n7 main write A.s 68,69: wrote 2\n  write A 1.1.1 key 513 at 4294967296 len 2\n  cdc A 1.1.1 token 1 number 1 told 0/2 read 0/0 -\n8 main deliver 1 A: landed 7.1\n9 main deliver 1 A: landed 7.2\n10 main read B.s 9: data 68,69\n  cdc B 1.1.1 token 1 number 1 told 0/0 read 0/2 -\nsocket s A wrote 2 read 0 B wrote 0 read 2\nok 10\n",
     },
     Case {
         words: &["run"],
-        input: b"open s\nopen t\n",
+        input: b"write A.s 00*16777216\nwrite B.s ff\n",
         status: Status::Refused,
         text: b"line 2: too many\n",
     },
@@ -106,7 +106,7 @@ const CASES: [Case; 20] = [
     },
     Case {
         words: &["run"],
-        input: b"pump 10\n",
+        input: b"pump 10001\n",
         status: Status::Refused,
         text: b"line 1: range\n",
     },
@@ -120,7 +120,43 @@ const CASES: [Case; 20] = [
         words: &["run"],
         input: b"open s\nread A.s 0\nread A.s 1\nopen s",
         status: Status::Ok,
-        text: b"1 main open s: opened\n2 main read A.s 0: data -\n3 main read A.s 1: empty\n4 main open s: name used\nsocket s A wrote 0 read 0 B wrote 0 read 0\nok 4\n",
+        text: b"1 main open s: opened\n  clc A s proposal\n2 main read A.s 0: not yet\n3 main read A.s 1: not yet\n4 main open s: name used\nsocket s A wrote 0 read 0 B wrote 0 read 0\nok 4\n",
+    },
+    Case {
+        words: &["run"],
+        input: b"set capable B no\nset bytes 1\nopen s\nwrite A.s 05\nread B.s 9\nwrite A.s 06\nread B.s 9\n",
+        status: Status::Spent,
+        text: b"1 main open s: declined not capable yes no\n2 main write A.s 05: wrote 1\n3 main read B.s 9: data 05\n4 main write A.s 06: wrote 1\nsocket s A wrote 2 read 0 B wrote 0 read 1\nspent bytes 1\n",
+    },
+    Case {
+        words: &["run"],
+        input: b"set entries 1\nopen s\nclc s A\n",
+        status: Status::Spent,
+        text: b"1 main open s: opened\n  clc A s proposal\nsocket s A wrote 0 read 0 B wrote 0 read 0\nspent entries 1\n",
+    },
+    Case {
+        words: &["run"],
+        input: b"open s\nset size 1\n",
+        status: Status::Refused,
+        text: b"line 2: order\n",
+    },
+    Case {
+        words: &["run"],
+        input: b"set size 1\nset size 2\n",
+        status: Status::Refused,
+        text: b"line 2: again\n",
+    },
+    Case {
+        words: &["run"],
+        input: b"set subnet A 10.0.0.1/8\n",
+        status: Status::Refused,
+        text: b"line 1: subnet\n",
+    },
+    Case {
+        words: &["run"],
+        input: b"set capable A maybe\n",
+        status: Status::Refused,
+        text: b"line 1: answer\n",
     },
     Case {
         words: &["show"],

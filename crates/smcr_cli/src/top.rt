@@ -14,7 +14,7 @@ use crate::spell::{push_number, push_text};
 use byte_port::{InputFault, Sink, Source, read_input, write_all};
 use scene_text::{LineKind, Scene, SceneFault, read_scene};
 use std::alloc::{AllocError, Global};
-use world_core::World;
+use world_core::{NewFault, World};
 
 /// An input has at most so many bytes.
 pub const MOST_INPUT_BYTES: u32 = 1_048_576;
@@ -106,8 +106,10 @@ fn run_scene(alloc: Global, scene: Scene, out: &mut Vec<u8>) -> Result<Status, A
         lines,
         payload,
     } = scene;
-    let Ok(mut world) = World::new(alloc, &setup, payload, room) else {
-        return Err(AllocError);
+    let mut world = match World::new(alloc, &setup, payload, room) {
+        Ok(world) => world,
+        Err(NewFault::NoMemory) => return Err(AllocError),
+        Err(NewFault::BadSetup { .. }) => unreachable!(),
     };
     let stop = run_lines(&mut world, &lines).err();
     let texts = Texts {

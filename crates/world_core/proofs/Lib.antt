@@ -43,17 +43,19 @@ pub mod FewUps
 pub mod FirstOn
 pub mod Follows
 pub mod FreshEnds
+pub mod FreshHosts
 pub mod GoingUp
+pub mod GoodSettings
 pub mod Groups
 pub mod Grown
 pub mod Growth
-pub mod HandStubs
 pub mod Handshaken
 pub mod Handshakes
 pub mod Heads
 pub mod HomeLandings
 pub mod HostsKept
 pub mod HostsOn
+pub mod HostsSwapped
 pub mod Idle
 pub mod InHistory
 pub mod KeptManagers
@@ -81,6 +83,7 @@ pub mod LinkMoves
 pub mod LinkRoom
 pub mod LinkTold
 pub mod Lists
+pub mod MayTakes
 pub mod MessageEnds
 pub mod Moved
 pub mod MovedWires
@@ -89,6 +92,7 @@ pub mod NeverOver
 pub mod NewManagers
 pub mod NewOffers
 pub mod News
+pub mod NextEvents
 pub mod NoResets
 pub mod Offers
 pub mod OnWay
@@ -140,6 +144,8 @@ pub mod Tables
 pub mod TakenAlone
 pub mod TakenAnswers
 pub mod TakenMessages
+pub mod TakenMessagesAll
+pub mod TakingsAfter
 pub mod TellsKept
 pub mod Tokens
 pub mod TokensOnWay
@@ -151,4 +157,5 @@ pub mod WireEntries
 pub mod WireKept
 pub mod WireMoves
 pub mod WiresAfter
+pub mod WorldAfter
 pub mod WriteEnds

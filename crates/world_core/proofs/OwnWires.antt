@@ -1,10 +1,13 @@
 -- After each entry of a played history the wire of the side that acts stands for it again, has had room for the posts, and each may be sent.
-use Rattle.std.proofs.Common.{◌≡◌, ◌∙◌, ℕ, ◌+◌, ◌*◌, ◌≤◌, Bool, true, false, List, [], ◌∷◌, ◌++◌, length, map, filter, filter_map, refl, ap, sym, subst, true≢false, arith, length-append}
+use Rattle.std.proofs.Common.{◌≡◌, ◌∙◌, ℕ, ◌^◌, ◌+◌, ◌*◌, ◌≤◌, Bool, true, false, List, [], ◌∷◌, ◌++◌, length, map, filter, filter_map, refl, ap, sym, subst, true≢false, arith, length-append}
 use Rattle.std.specs.Prelude.{Option, Some, None, IsSome, is_some}
 use Rattle.std.proofs.lemmas.List.{length-map}
 use Rattle.smc_num.specs.declared.Side.{Side}
 use Rattle.smc_num.specs.Names.{other, head}
 use Rattle.cdc_wire.specs.declared.CdcMessage.{CdcMessage}
+use Rattle.clc_wire.specs.declared.message.ClcMessage.{ClcMessage}
+use Rattle.clc_wire.specs.Clc.{Fits}
+use Rattle.pipe_model.specs.Fallback.{untaken}
 use Rattle.rmb_region.specs.Regions.{Buffer}
 use Rattle.pipe_model.specs.declared.sent.Sent.{Sent}
 use Rattle.pipe_model.specs.declared.setup.Setup.{Setup}
@@ -32,7 +35,8 @@ use Rattle.world_core.specs.WireSteps.{EachPost}
 use Rattle.world_core.specs.Goings.{Going, Stayed, Lands_own, Lands_other, Completes_own, Completes_other}
 use Rattle.world_core.specs.Agreement.{HasOffers, GivesItems, GoesOn, IsShaken, PostsOne}
 use Rattle.world_core.specs.Managers.{manager_of, HasLendings}
-use Rattle.world_core.specs.Hosts.{half_of, plains, shots, IsWireAfter, with_posts}
+use Rattle.world_core.proofs.ClcFits.{untaken-fits}
+use Rattle.world_core.specs.Hosts.{IsWorldSet, half_of, plains, shots, IsWireAfter, with_posts}
 use Rattle.world_core.specs.Sending.{carried_from, goes_on_wire, moved, acting_side, MaySendAll}
 use Rattle.world_core.proofs.Handshaken.{shaken, has-offers, gives-items}
 use Rattle.world_core.proofs.PlayedWorlds.{played}
@@ -59,12 +63,12 @@ IsAimed v (Cdc from link m) = IsSome (aimer m.token v.records)
 IsAimed v _ = Unit {0}
 
 -- each may be sent
-may-all : (sockets : ℕ) (x : Side) (past : List Entry) (v : Manager Kept) (posts : List Post) → EachPost (IsAimed v) posts → EachPost (IsPosted sockets x past) posts → MaySendAll sockets v posts
-may-all sockets x past v [] f g = tt
-may-all sockets x past v (Cdc from link m ∷ posts) f g = (f.0, may-all sockets x past v posts f.1 g.1)
-may-all sockets x past v (Clc from s link m ∷ posts) f g = let known = g.0 in (known.0, may-all sockets x past v posts f.1 g.1)
-may-all sockets x past v (Write from link key address len ∷ posts) f g = (tt, may-all sockets x past v posts f.1 g.1)
-may-all sockets x past v (Llc from link m ∷ posts) f g = (tt, may-all sockets x past v posts f.1 g.1)
+may-all : (sockets : ℕ) (x : Side) (past : List Entry) (v : Manager Kept) (posts : List Post) → ((s : ℕ) (m : ClcMessage) → head (untaken x s past) ≡ Some m → Fits m) → EachPost (IsAimed v) posts → EachPost (IsPosted sockets x past) posts → MaySendAll sockets v posts
+may-all sockets x past v [] fit f g = tt
+may-all sockets x past v (Cdc from link m ∷ posts) fit f g = (f.0, may-all sockets x past v posts fit f.1 g.1)
+may-all sockets x past v (Clc from s link m ∷ posts) fit f g = let known = g.0 in ((known.0, fit s m known.1), may-all sockets x past v posts fit f.1 g.1)
+may-all sockets x past v (Write from link key address len ∷ posts) fit f g = (tt, may-all sockets x past v posts fit f.1 g.1)
+may-all sockets x past v (Llc from link m ∷ posts) fit f g = (tt, may-all sockets x past v posts fit f.1 g.1)
 
 is-there : (o : Option ℕ) (s : ℕ) → o ≡ Some s → IsSome o
 is-there (Some t) s e = refl
@@ -180,8 +184,9 @@ module _ (setup : Setup) (one : IsOneLink setup) (payload : List ℕ) (e : Entry
               is-there (aimer m.token v.records) q.s (aimers_same m.token v.records (N).records works.records ∙ aims-at q m t (of-acting setup one payload e past n p q ∙ acts))
 
       -- each post may be sent
-      pub may-send : (v : Manager Kept) → StandsFor v N → MaySendAll setup.sockets v e.posts
-      may-send v stands = may-all setup.sockets x (e ∷ past) v e.posts (each-aimed v stands) (clc-posted setup one payload e past n p x acts)
+      pub may-send : length (e ∷ past) ≤ 2 ^ 18 → IsWorldSet setup payload → (v : Manager Kept) → StandsFor v N → MaySendAll setup.sockets v e.posts
+      may-send few worlds v stands =
+          may-all setup.sockets x (e ∷ past) v e.posts (λ s m first. untaken-fits setup one payload (e ∷ past) n p few x (worlds.set x) x s m first) (each-aimed v stands) (clc-posted setup one payload e past n p x acts)
 
   -- the wire has room for the posts
   pub room-own : (x : Side) → acting_side e.event ≡ x → (w : Queues) → IsWireAfter setup payload x past w → length (filter goes_on_wire e.posts) ≤ room_of (moved x e.event w)

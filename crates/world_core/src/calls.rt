@@ -56,7 +56,7 @@ pub fn read(
     requires socket { end.s < moment.setup.now.sockets }
     requires before { vec_len heard.old ≡ moment.heard }
     requires room { vec_len heard.old + handed (told_at moment (Read end len)) ≤ vec_capacity heard.old }
-    requires least { vec_capacity heard.old < 2 ^ 32 }
+    requires least { vec_len heard.old + handed (told_at moment (Read end len)) ≤ 2 ^ 26 }
     requires none { posts.old.items ≡ [] }
     ensures played { IsPlayedBy moment.entry (Read end len) result posts.new.items end.side own.new theirs.new }
     ensures heard { heard.new.items ≡ heard.old.items ++ told_bytes (told_at moment.entry (Read end len)) }

@@ -1,6 +1,6 @@
 //! The world: what was set, what has happened, what was handed out, and the two hosts.
-ghost use Rattle.std.specs.Prelude.{◌≡◌, ◌↔◌, ◌≤◌, ◌<◌, ◌+◌, ◌^◌, ◌++◌, ◌∷◌, [], ℕ, length, vec_len, vec_capacity, IfOk, IsTrue, None, Some, Err};
-ghost use Rattle.std.specs.List.{find, flat_map};
+ghost use Rattle.std.specs.Prelude.{◌≡◌, ◌↔◌, ◌≤◌, ◌<◌, ◌+◌, ◌^◌, ◌++◌, ◌∷◌, [], ℕ, length, vec_len, vec_capacity, IfOk, IsTrue, None, Some, Err, option_to_list};
+ghost use Rattle.std.specs.List.{All, find, flat_map};
 ghost use Rattle.smc_num.specs.declared.Side.TheVariants.{A};
 ghost use Rattle.pipe_model.specs.Fits.{Fits};
 ghost use Rattle.world_core.specs.Played.{handed};
@@ -91,6 +91,7 @@ fn act(
     requires fits { Fits moment.setup.now (length moment.payload.now) event }
     requires before { vec_len heard.old ≡ moment.heard }
     requires room { vec_len heard.old + handed (told_at moment event) ≤ vec_capacity heard.old }
+    requires least { vec_len heard.old + handed (told_at moment event) ≤ 2 ^ 26 }
     requires none { posts.old.items ≡ [] }
     ensures played { IsPlayedBy moment.entry event result posts.new.items A a.new b.new }
     ensures heard { heard.new.items ≡ heard.old.items ++ told_bytes (told_at moment.entry event) }
@@ -122,13 +123,14 @@ fn act(
     }
 }
 
-/// The socket that an entry opens, if it opens one.
-fn opened_by(event: Event, reply: Reply) -> Option<u32>
-    ensures { result ≡ opened_socket event reply }
+/// Notes the socket that an entry opens, if it opens one.
+fn note_opened(opened: &mut Vec<u32>, event: Event, reply: Reply)
+    requires { vec_len opened.old < vec_capacity opened.old }
+    ensures items { opened.new.items ≡ opened.old.items ++ option_to_list (opened_socket event reply) }
+    ensures capacity { vec_capacity opened.old ≤ vec_capacity opened.new }
 {
-    match (event, reply) {
-        (Event::Open(s), Reply::Opened) => Some(s),
-        _ => None,
+    if let (Event::Open(s), Reply::Opened) = (event, reply) {
+        push_within(opened, s);
     }
 }
 
@@ -272,9 +274,7 @@ impl World {
             &mut self.heard,
             &mut posts,
         );
-        if let Some(s) = opened_by(event, reply) {
-            push_within(&mut self.opened, s);
-        }
+        note_opened(&mut self.opened, event, reply);
         push_within(
             &mut self.history,
             Entry {
@@ -318,11 +318,19 @@ impl World {
         None
     }
 
-    /// The first CLC message that would be taken.
+    /// The first CLC message that would be taken, on the sockets as they were opened.
     fn next_on_sockets(&self) -> Option<Event>
         ensures { result ≡ find (λ event. does_something (told_by self.now event)) (flat_map socket_events (opening_order (past self.now))) }
     {
-        for s in &self.opened {
+        self.next_on_these(&self.opened)
+    }
+
+    /// The first CLC message that would be taken on some sockets.
+    fn next_on_these(&self, sockets: &[u32]) -> Option<Event>
+        requires { All (λ s. s < self.now.setup.sockets) sockets.now }
+        ensures { result ≡ find (λ event. does_something (told_by self.now event)) (flat_map socket_events sockets.now) }
+    {
+        for s in sockets {
             if let Some(event) = self.next_on(*s) {
                 return Some(event);
             }
