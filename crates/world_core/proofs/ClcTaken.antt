@@ -7,7 +7,6 @@ use Rattle.pipe_model.specs.Ends.{Half}
 use Rattle.pipe_model.specs.Fabric.{table_of}
 use Rattle.pipe_model.specs.Handshake.{lacks, on_accept, on_confirm, on_proposal}
 use Rattle.pipe_model.specs.History.{Offered, offered}
-use Rattle.pipe_model.specs.Keys.{offers}
 use Rattle.pipe_model.specs.Lending.{free_places}
 use Rattle.pipe_model.specs.Messages.{proposal}
 use Rattle.pipe_model.specs.Pipe.{half}
@@ -48,8 +47,7 @@ use Rattle.world_core.specs.Lent.{AreLendings, IsOfOffer}
 use Rattle.world_core.specs.Managers.{HasLendings, manager_of}
 use Rattle.world_core.specs.OneLink.{Begun, IsAtStage, LiveAtBoth, Made, Stage, the_link}
 use Rattle.world_core.specs.Played.{IsOneLink, IsPlayed}
-use Rattle.world_core.specs.Sockets.{Socket, Unopened, Fallen, Proposed, Refused, FirstAccepted, FirstConfirmed, AwaitsLink, FirstUpAtA, FirstUp, Accepted, AcceptRefused, AcceptFallen, Confirmed, Up, StandsAt, IsWorld, IsOffer, suits, end_at, untaken_at, offered_at, on_link}
-use Rattle.pipe_model.specs.declared.event.Event.{Event}
+use Rattle.world_core.specs.Sockets.{Socket, Proposed, Refused, FirstAccepted, FirstConfirmed, Accepted, AcceptRefused, Confirmed, StandsAt, IsWorld, IsOffer, suits, end_at, untaken_at, offered_at, on_link}
 use Rattle.pipe_model.specs.declared.event.Event.TheVariants.{Clc}
 use Rattle.pipe_model.specs.declared.reply.Reply.{Reply}
 use Rattle.pipe_model.specs.declared.reply.Reply.TheVariants.{Idle, Held, Sent, Declined, Established, FellBack}
@@ -58,7 +56,7 @@ use Rattle.pipe_model.specs.declared.verdict.ClcStep.{ClcStep}
 use Rattle.pipe_model.specs.declared.verdict.ClcStep.TheVariants.{SendAccept, SendConfirm, Wait, Decline, Fell, Ready}
 use Rattle.clc_wire.specs.declared.message.ClcMessage.{ClcMessage}
 use Rattle.clc_wire.specs.declared.message.ClcMessage.TheVariants.{Proposal as ProposalMessage, Accept as AcceptMessage, Confirm as ConfirmMessage, Decline as DeclineMessage}
-use Rattle.pipe_model.specs.Connections.{EndState, IsUp, WaitsConfirm, WaitsProposal, WaitsAnswer, end_state, early_state, after_event, after_loss, is_up, named_link, group_on}
+use Rattle.pipe_model.specs.Connections.{EndState, WaitsProposal, end_state, early_state, after_event, after_loss, is_up, named_link, group_on}
 use Rattle.world_core.proofs.Offers.{has-free, unlent-free, none-lent}
 use Rattle.world_core.proofs.Verdicts.{OnProposal, OnAccept, refuses, holds, begins, joins, on-proposal, on-first, on-later, on-confirm}
 use Rattle.world_core.proofs.PlayedWorlds.{played as has-world}
@@ -66,11 +64,11 @@ use Rattle.world_core.proofs.Handshakes.{offer-of}
 use Rattle.world_core.proofs.ReadyManagers.{asks-to-confirm}
 use Rattle.world_core.proofs.EstablishedManagers.{comes-up-later}
 use Rattle.world_core.proofs.TakenMessages.{end-is, told-is, begun-with, made-with, live-with}
-use Rattle.pipe_model.specs.Fallback.{Front, Whole, front, front_of, front_of_posts, stream, untaken, is_raw}
+use Rattle.pipe_model.specs.Fallback.{Whole, front, front_of, front_of_posts, stream, untaken}
 use Rattle.pipe_model.specs.Replies.{clc_step, clc_told, expects, front_told, step_told}
 use Rattle.pipe_model.specs.Handshake.{verdict}
 use Rattle.world_core.proofs.LinkFacts.{no-group-ends-with}
-use Rattle.pipe_model.specs.Lending.{Lending, lends, lends_by, lendings, lent, leaves_handshake, pipe_of}
+use Rattle.pipe_model.specs.Lending.{Lending, lends, lent, leaves_handshake, pipe_of}
 use Rattle.side_core.specs.Landing.{is_wait}
 
 -- what becomes of the manager of the peer: where A has sent the Confirm of first contact, the link is made there

@@ -4,7 +4,6 @@ use Rattle.clc_handshake.specs.Stages.{Hand, named_group}
 use Rattle.clc_wire.specs.declared.offer.Offer.{Offer}
 use Rattle.pipe_model.specs.Handshake.{verdict}
 use Rattle.pipe_model.specs.History.{Offered, offered}
-use Rattle.pipe_model.specs.Keys.{confirms, offers}
 use Rattle.pipe_model.specs.Messages.{proposal}
 use Rattle.pipe_model.specs.Plain.{begun}
 use Rattle.pipe_model.specs.Posts.{groups_begun}
@@ -25,17 +24,16 @@ use Rattle.world_core.proofs.LinkFacts.{few-groups}
 use Rattle.world_core.proofs.Tables.{at-socket, sockets-long}
 use Rattle.world_core.proofs.TakenAlone.{paths_of}
 use Rattle.world_core.specs.OneLink.{Asking, Begun, LiveAtA, LiveAtBoth, Made, NoLink, Stage, fabric_at, the_link}
-use Rattle.world_core.specs.Settings.{within}
-use Rattle.world_core.specs.Sockets.{Socket, Unopened, Fallen, Proposed, Refused, FirstAccepted, FirstConfirmed, AwaitsLink, FirstUpAtA, FirstUp, Accepted, AcceptRefused, AcceptFallen, Confirmed, Up, StandsAt, IsWorld, IsOffer as OfferStands, suits, end_at, untaken_at, offered_at, on_link, is_first}
-use Rattle.side_core.specs.Taking.{IsOffer, IsNext, MayHear, MayLend, MayTake, verdict_at}
+use Rattle.world_core.specs.Sockets.{Socket, Proposed, Refused, FirstAccepted, FirstConfirmed, Accepted, AcceptRefused, Confirmed, StandsAt, IsWorld, IsOffer as OfferStands, suits, end_at, untaken_at, offered_at, on_link, is_first}
+use Rattle.side_core.specs.Taking.{IsOffer, MayHear, MayLend, MayTake, verdict_at}
 use Rattle.clc_wire.specs.declared.message.ClcMessage.{ClcMessage}
 use Rattle.clc_wire.specs.declared.message.ClcMessage.TheVariants.{Proposal as ProposalMessage, Accept as AcceptMessage, Confirm as ConfirmMessage, Decline as DeclineMessage}
-use Rattle.pipe_model.specs.Connections.{EndState, WaitsConfirm, IsUp, end_state, named_link}
-use Rattle.pipe_model.specs.Replies.{expects, clc_step, clc_told, step_told, front_told}
-use Rattle.pipe_model.specs.Fallback.{untaken, is_raw}
+use Rattle.pipe_model.specs.Connections.{EndState, WaitsConfirm, end_state}
+use Rattle.pipe_model.specs.Replies.{expects, clc_told, step_told}
+use Rattle.pipe_model.specs.Fallback.{untaken}
 use Rattle.pipe_model.specs.Fabric.{Fabric, fabric, made_on as made_in}
-use Rattle.side_core.specs.Desk.{Desk, made_on, most_slots}
-use Rattle.side_core.specs.Records.{Connection, Records, conn_at, route_at, aimer, is_aimed_at, StandsAt as ConnStands, AllStand}
+use Rattle.side_core.specs.Desk.{Desk, made_on}
+use Rattle.side_core.specs.Records.{Connection, aimer, is_aimed_at}
 use Rattle.side_core.specs.Manager.{Manager, StandsFor, hand_at, state_at, no_hand}
 use Rattle.side_core.specs.Landing.{CanMake, is_wait}
 use Rattle.side_core.proofs.Allowed.{aimers_same, routes_same}
@@ -44,10 +42,10 @@ use Rattle.world_core.specs.Hosts.{IsWorldSet}
 use Rattle.world_core.specs.Managers.{manager_of, desk_of, hand_of, conn_of, end_of, route_of, records_of, each_socket, lending_on, heard_on, awaits_confirm, keeps_element, HasLendings}
 use Rattle.world_core.proofs.PlayedWorlds.{played as has-world}
 use Rattle.world_core.proofs.Handshakes.{offer-of}
-use Rattle.world_core.proofs.TakenMessages.{end-is, live-with, begun-with, made-with, told-is}
+use Rattle.world_core.proofs.TakenMessages.{end-is, begun-with}
 use Rattle.world_core.proofs.LendingFacts.{found-lending, lends-for, each-map, played-lendings, few-lendings, room-for-one, tokens-tell}
 use Rattle.pipe_model.specs.Lending.{Lending, lends_by, lendings, lent}
-use Rattle.std.specs.List.{position, position_from, find, range_with_len}
+use Rattle.std.specs.List.{position_from, find, range_with_len}
 use Rattle.world_core.specs.Lent.{AreLendings, AreCounted, EachLending}
 use Rattle.world_core.proofs.ClcTaken.{link_of}
 use Rattle.side_core.specs.declared.route.Route.{Route}
@@ -56,8 +54,7 @@ use Rattle.pipe_model.specs.Ends.{Half}
 use Rattle.pipe_model.specs.Messages.{serial, new_pair}
 use Rattle.world_core.proofs.LinkManagers.{stage-desk}
 use Rattle.world_core.proofs.Lendings.{lending-due, no-lending-due}
-use Rattle.pipe_model.specs.declared.reply.Reply.{Reply}
-use Rattle.pipe_model.specs.declared.reply.Reply.TheVariants.{Idle, Sent, Established}
+use Rattle.pipe_model.specs.declared.reply.Reply.TheVariants.{Sent, Established}
 use Rattle.pipe_model.specs.declared.reply.SentKind.TheVariants.{Confirm as ConfirmSent, ConfirmLink as LinkSent}
 use Rattle.pipe_model.specs.declared.event.Event.TheVariants.{Clc}
 use Rattle.pipe_model.specs.declared.verdict.ClcStep.{ClcStep}
@@ -68,7 +65,7 @@ use Rattle.side_core.proofs.Allowed.{tells}
 use Rattle.side_core.proofs.Verdicts.{Tells}
 use Rattle.world_core.specs.Steps.{does_something, entry_of}
 use Rattle.pipe_model.specs.declared.verdict.Lacks.{Lacks}
-use Rattle.world_core.specs.Played.{IsOneLink, IsPlayed, IsMade, handed}
+use Rattle.world_core.specs.Played.{IsOneLink, IsPlayed, handed}
 use Rattle.world_core.proofs.TakenMessagesAll.{taken, taken-by-entry, idle}
 use Rattle.std.proofs.lemmas.Iterator.Adapters.{position_from-zero}
 
@@ -226,8 +223,8 @@ module _ (setup : Setup) (one : IsOneLink setup) (payload : List ℕ) (regions :
           hears = (
             offer-may B s c (at.offer A ∙ theirs) (is_first k) i (inr (ap (λ st. awaits_confirm st) state)),
             ap (λ q. option_map (λ (r : Route). r.link) (option_map (λ (c : Connection Half). c.route) q)) (conn-at setup payload regions B past s known)
-            ∙ (ap (λ q. option_map (λ (r : Route). r.link) (option_map (λ (c : Connection Half). c.route) (option_map (λ l. let c : Connection Half = record { route = route_of B s past l; end = end_of setup payload B s past } in c) q))) found
-            ∙ ap (λ q. Some (unwrap_or (option_map (λ (r : Offered). r.link) q) no_link)) mine),
+                ∙ (ap (λ q. option_map (λ (r : Route). r.link) (option_map (λ (c : Connection Half). c.route) (option_map (λ l. let c : Connection Half = record { route = route_of B s past l; end = end_of setup payload B s past } in c) q))) found
+                ∙ ap (λ q. Some (unwrap_or (option_map (λ (r : Offered). r.link) q) no_link)) mine),
           );
           lends = tt;
         }
