@@ -43,6 +43,7 @@ use Rattle.world_core.proofs.ClcPosts.{no-clc-posts, none-put}
 use Rattle.world_core.proofs.OwnWires.{wire-own, room-own, each-aimed}
 use Rattle.world_core.proofs.DataSends.{data-may-go}
 use Rattle.world_core.proofs.WiresAfter.{wire-theirs}
+use Rattle.world_core.proofs.MovedWires.{complete-own, complete-else, twice}
 use Rattle.world_core.proofs.CallEntries.{IsNothing}
 use Rattle.world_core.proofs.CompletionEntries.{completes-nothing, completes-write, completes-message}
 use Rattle.world_core.proofs.MessageEnds.{AreSized, Completing, completing as message-completing}
@@ -53,19 +54,6 @@ use Rattle.pipe_model.specs.declared.sent.Sent.{Sent}
 use Rattle.side_core.specs.Acting.{acts_at, due_at}
 use Rattle.side_core.specs.Landing.{MayCompleteIn, CompletesIn}
 use Rattle.world_core.proofs.WireEntries.{IsDone}
-
--- the side that completes is not its peer
-other-moved : (x : Side) (w : Queues) → moved (other x) (Complete 1 x) w ≡ w
-other-moved A w = refl
-other-moved B w = refl
-
-own-moved : (x : Side) (w : Queues) → moved x (Complete 1 x) w ≡ with_completed (would_complete w) w
-own-moved A w = refl
-own-moved B w = refl
-
-acts-other : (x : Side) → x ≡ other (other x)
-acts-other A = refl
-acts-other B = refl
 
 not-written : (payload : List ℕ) (y x : Side) (s : ℕ) (reply : Reply) (past : List Entry) → written payload y s (Complete 1 x) reply past ≡ []
 not-written payload A x s reply past = refl
@@ -104,10 +92,10 @@ module _ (setup : Setup) (payload : List ℕ) (past : List Entry) (heard : ℕ) 
       let theirs = before.theirs in
       let set = before.set in record {
         side = stands-on setup payload past Now (other x) k.core (manager_of setup payload (buffer_of setup payload (other x) past ∷ []) (other x) past) (none-lands (other (other x))) kept theirs.side;
-        wire = subst (λ (w : Queues). IsWireAfter setup payload (other x) (entry_of setup payload past heard actor (Complete 1 x) ∷ past) w) (other-moved x k.wire)
-            (wire-theirs setup set.one payload Now past Heard play (other x) (acts-other x) k.wire theirs.wire);
+        wire = subst (λ (w : Queues). IsWireAfter setup payload (other x) (entry_of setup payload past heard actor (Complete 1 x) ∷ past) w) (complete-else x 1 k.wire)
+            (wire-theirs setup set.one payload Now past Heard play (other x) (twice x) k.wire theirs.wire);
         sockets = theirs.sockets;
-        flows = their-flows setup set.one payload Now past Heard play (other x) (acts-other x) k.flows.items (λ s. refl) (λ s. refl) theirs.flows;
+        flows = their-flows setup set.one payload Now past Heard play (other x) (twice x) k.flows.items (λ s. refl) (λ s. refl) theirs.flows;
       }
 
   -- the host of the side that completes, after it has sent what is posted
@@ -181,7 +169,7 @@ module _ (at : Moment) (x : Side) (h k : Host) (hosts : AreHosts at x h k) (few 
       let first = none OwnRegions 0 in
       let empty : Posts ≡ [] = first.posts in
       is-played (with_wire w h) reply posts (manager_of S P OwnRegions x Past) reply_now (posts_now ∙ sym empty) (λ actor. let q = none TheirRegions actor in q.kept (other x)) (λ actor. let q = none OwnRegions actor in q.kept x) own.side
-      (λ v stands. wire_is ∙ (sym (own-moved x h.wire) ∙ (sym (unposted (moved x (Complete 1 x) h.wire)) ∙ ap (λ (ps : List Post). with_posts (carried_from v (next_number Past) 1 ps) (moved x (Complete 1 x) h.wire)) (sym empty))))
+      (λ v stands. wire_is ∙ (sym (complete-own x 1 h.wire) ∙ (sym (unposted (moved x (Complete 1 x) h.wire)) ∙ ap (λ (ps : List Post). with_posts (carried_from v (next_number Past) 1 ps) (moved x (Complete 1 x) h.wire)) (sym empty))))
       (ap (λ (ps : List Post). puts_all ps h.flows.items) (sym empty))
 
   -- nothing completes
@@ -280,7 +268,7 @@ module _ (at : Moment) (x : Side) (c : Carried) (h k : Host) (completed : HasCom
     acted = let hosts = completed.hosts in let own = hosts.own in side Was d.s d.sent own.side d.completes
 
     left-wire : h.wire ≡ moved x (Complete 1 x) completed.before
-    left-wire = completed.wire ∙ (ap (λ o. with_completed o completed.before) (sym completed.first) ∙ sym (own-moved x completed.before))
+    left-wire = completed.wire ∙ (ap (λ o. with_completed o completed.before) (sym completed.first) ∙ sym (complete-own x 1 completed.before))
 
     pub may-be-sent : MaySendAll (length h.flows.items) v posts
     may-be-sent =

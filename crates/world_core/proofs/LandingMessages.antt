@@ -47,7 +47,8 @@ use Rattle.world_core.proofs.ConfirmEnds.{confirmation}
 use Rattle.world_core.proofs.SoundEnds.{sound-at}
 use Rattle.world_core.proofs.OnWire.{next-lands, landing-is}
 use Rattle.world_core.proofs.LandingEntries.{message-told, lands-message, llc-told, lands-llc}
-use Rattle.world_core.proofs.LandingsAfter.{Taker, one-lands, few-before, lent-now, sent-landing, may-be-sent, has-room, twice}
+use Rattle.world_core.proofs.LandingsAfter.{Taker, one-lands, few-before, lent-now, sent-landing, may-be-sent, has-room}
+use Rattle.world_core.proofs.MovedWires.{twice}
 
 -- what is known of a message that has landed: what becomes of the manager that takes it, what is posted, and what becomes of the sender's
 pub record IsTaking (at : Moment) (x : Side) (taken sent : Manager Half) (posts : List Post) : Type 0 where
@@ -201,7 +202,7 @@ module _ (at : Moment) (x : Side) (c : Carried) (h k : Host) (landed : HasLanded
                 (map (λ (d : Carried). d.post) next.rest) (first-posts next.rest next.carried_is (Llc x link m) is_llc);
             taker = λ actor. let q = is TheirRegions actor in q.taker;
             sender = λ actor. let q = is OwnRegions actor in
-                subst (λ (y : Side). manager_of at.setup.now at.payload.now OwnRegions y (After actor ∷ Past) ≡ manager_of at.setup.now at.payload.now OwnRegions y Past) (twice x) q.theirs;
+                subst (λ (y : Side). manager_of at.setup.now at.payload.now OwnRegions y (After actor ∷ Past) ≡ manager_of at.setup.now at.payload.now OwnRegions y Past) (sym (twice x)) q.theirs;
             posts_are = let q = is TheirRegions 0 in q.posts;
           };
         }

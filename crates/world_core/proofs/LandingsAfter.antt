@@ -71,10 +71,6 @@ one-on : (x : Side) (at : PostRef) → lands_on x 1 (Deliver 1 x) (Landed at) �
 one-on A at = refl
 one-on B at = refl
 
-pub twice : (x : Side) → other (other x) ≡ x
-twice A = refl
-twice B = refl
-
 not-written : (payload : List ℕ) (y x : Side) (s : ℕ) (reply : Reply) (past : List Entry) → written payload y s (Deliver 1 x) reply past ≡ []
 not-written payload A x s reply past = refl
 not-written payload B x s reply past = refl
