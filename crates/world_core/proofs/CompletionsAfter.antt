@@ -1,7 +1,7 @@
 -- Both hosts after a completion: what the acting host keeps, what it posts, and what stays at its peer.
-use Rattle.std.proofs.Common.{◌≡◌, ◌∙◌, ℕ, ◌+◌, ◌≤◌, ◌<◌, ◌^◌, ◌==◌, Bool, true, false, if◌then◌else◌, List, [], ◌∷◌, ◌++◌, length, filter, reverse, refl, ap, sym, subst, true≢false, arith}
+use Rattle.std.proofs.Common.{◌≡◌, ◌∙◌, ℕ, ◌+◌, ◌≤◌, ◌<◌, ◌^◌, List, [], ◌∷◌, ◌++◌, length, filter, refl, ap, sym, subst, true≢false}
 use Rattle.std.proofs.lemmas.List.{length-reverse}
-use Rattle.std.specs.Prelude.{Option, Some, None, option_map}
+use Rattle.std.specs.Prelude.{Some, None}
 use Rattle.smc_num.specs.declared.Side.{Side}
 use Rattle.smc_num.specs.declared.Side.TheVariants.{A, B}
 use Rattle.smc_num.specs.declared.LinkId.{LinkId}
@@ -35,7 +35,7 @@ use Rattle.world_core.specs.Leaving.{HasCompleted, with_wire}
 use Rattle.world_core.specs.Landed.{buffer_of}
 use Rattle.world_core.specs.Steps.{entry_of}
 use Rattle.world_core.specs.Sending.{carried_from, goes_on_wire, moved, puts_all, MaySendAll}
-use Rattle.world_core.specs.Hosts.{AreHosts, AreHostsAfter, IsHostAfter, IsWireAfter, IsPlayedBy, past_of, told_at, with_posts}
+use Rattle.world_core.specs.Hosts.{AreHosts, AreHostsAfter, IsHostAfter, IsWireAfter, IsPlayedBy, past_of, with_posts}
 use Rattle.world_core.proofs.HostsKept.{if-none, unposted, stands-on, hosts-after, played-now}
 use Rattle.world_core.proofs.AllLendings.{has-lendings}
 use Rattle.world_core.proofs.StreamsAfter.{Flowing, own-flows, their-flows}
@@ -46,19 +46,20 @@ use Rattle.world_core.proofs.WiresAfter.{wire-theirs}
 use Rattle.world_core.proofs.MovedWires.{complete-own, complete-else, twice}
 use Rattle.world_core.proofs.CallEntries.{IsNothing}
 use Rattle.world_core.proofs.CompletionEntries.{completes-nothing, completes-write, completes-message}
-use Rattle.world_core.proofs.MessageEnds.{AreSized, Completing, completing as message-completing}
+use Rattle.world_core.proofs.MessageEnds.{AreSized, completing as message-completing}
 use Rattle.world_core.proofs.OnWire.{no-completing, completing-is, next-completes, completes-late, never-clc}
-
 use Rattle.conn_end.specs.Kept.{Kept}
 use Rattle.pipe_model.specs.declared.sent.Sent.{Sent}
 use Rattle.side_core.specs.Acting.{acts_at, due_at}
 use Rattle.side_core.specs.Landing.{MayCompleteIn, CompletesIn}
 use Rattle.world_core.proofs.WireEntries.{IsDone}
 
+-- a completion brings no bytes into a stream
 not-written : (payload : List ℕ) (y x : Side) (s : ℕ) (reply : Reply) (past : List Entry) → written payload y s (Complete 1 x) reply past ≡ []
 not-written payload A x s reply past = refl
 not-written payload B x s reply past = refl
 
+-- both hosts, whoever the actor was
 module _ (setup : Setup) (payload : List ℕ) (past : List Entry) (heard : ℕ) (x : Side) (h k : Host) (before : AreHostsAfter setup payload past heard x h k) (few : length past < 2 ^ 18) (actor : ℕ) where
   abbrev Now : Entry
   Now = entry_of setup payload past heard actor (Complete 1 x)
@@ -305,8 +306,8 @@ module _ (at : Moment) (x : Side) (c : Carried) (h k : Host) (completed : HasCom
         (λ actor. let q = d.done (buffer_of at.setup.now at.payload.now x (past_of at) ∷ []) actor in q.own)
         (subst (λ u. StandsFor u (acts_at d.s (completes (Some d.sent)) Was)) (sym core_is) acted)
         (λ n stands.
-          wire_is n (subst (λ u. StandsFor u n) core_is stands)
-          ∙ (ap (λ i. with_posts (carried_from n i 1 posts) h.wire) next
-          ∙ (ap (λ (ps : List Post). with_posts (carried_from n (next_number (past_of at)) 1 ps) h.wire) posts-now
-          ∙ ap (λ (w : Queues). with_posts (carried_from n (next_number (past_of at)) 1 (posted at.setup.now at.payload.now (past_of at) at.heard (Complete 1 x))) w) left-wire)))
+        wire_is n (subst (λ u. StandsFor u n) core_is stands)
+        ∙ (ap (λ i. with_posts (carried_from n i 1 posts) h.wire) next
+        ∙ (ap (λ (ps : List Post). with_posts (carried_from n (next_number (past_of at)) 1 ps) h.wire) posts-now
+        ∙ ap (λ (w : Queues). with_posts (carried_from n (next_number (past_of at)) 1 (posted at.setup.now at.payload.now (past_of at) at.heard (Complete 1 x))) w) left-wire)))
         (flows_are ∙ ap (λ (ps : List Post). puts_all ps h.flows.items) posts-now)

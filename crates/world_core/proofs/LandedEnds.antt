@@ -1,5 +1,5 @@
 -- A manager that stands for a plain one stands for it as well once a message of one of its ends has left for the peer: the end doesn't keep that.
-use Rattle.std.proofs.Common.{◌≡◌, ◌∙◌, ℕ, zero, suc, List, [], ◌∷◌, length, refl, ap, sym, subst}
+use Rattle.std.proofs.Common.{◌∙◌, ℕ, zero, suc, List, [], ◌∷◌, sym}
 use Rattle.std.proofs.lemmas.List.{length-set}
 use Rattle.std.specs.Prelude.{Option, Some, None, option_map, slice_index_or, slice_set}
 use Rattle.smc_num.specs.Links.{Known}

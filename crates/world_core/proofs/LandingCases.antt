@@ -1,5 +1,5 @@
 -- A post that has just landed, case by case: a write, a CDC message, and CONFIRM LINK or the reply to it.
-use Rattle.std.proofs.Common.{◌≡◌, ◌∙◌, ℕ, ◌+◌, ◌≤◌, ◌<◌, ◌^◌, Bool, true, false, if◌then◌else◌, List, [], ◌∷◌, ◌++◌, length, map, filter, take, drop, refl, ap, sym, subst}
+use Rattle.std.proofs.Common.{◌≡◌, ◌∙◌, ℕ, ◌+◌, ◌<◌, ◌^◌, List, [], ◌∷◌, ◌++◌, length, map, take, drop, refl, ap, sym, subst}
 use Rattle.std.specs.Prelude.{Option, Some, None, unwrap_or}
 use Rattle.smc_num.specs.declared.Side.{Side}
 use Rattle.smc_num.specs.declared.LinkId.{LinkId}
@@ -10,48 +10,30 @@ use Rattle.llc_wire.specs.declared.LlcMessage.{LlcMessage}
 use Rattle.rmb_region.specs.Regions.{Buffer}
 use Rattle.clc_wire.specs.declared.message.ClcMessage.{ClcMessage}
 use Rattle.pipe_model.specs.declared.event.Event.TheVariants.{Deliver}
-use Rattle.pipe_model.specs.declared.reply.Reply.{Reply}
 use Rattle.pipe_model.specs.declared.reply.Reply.TheVariants.{Landed}
-use Rattle.pipe_model.specs.declared.flow.FlowStep.{FlowStep}
-use Rattle.pipe_model.specs.declared.flow.FlowStep.TheVariants.{Live}
-use Rattle.pipe_model.specs.declared.flow.LinkView.{LinkView}
-use Rattle.pipe_model.specs.declared.post.Post.{Post}
 use Rattle.pipe_model.specs.declared.post.Post.TheVariants.{Write, Cdc, Llc, Clc}
-use Rattle.pipe_model.specs.declared.post.Placed.{Placed}
-use Rattle.pipe_model.specs.declared.sent.Sent.{Sent}
 use Rattle.pipe_model.specs.declared.entry.Entry.{Entry}
-use Rattle.pipe_model.specs.Ends.{Half, takes, lands}
-use Rattle.pipe_model.specs.Wires.{landing, unlanded}
-use Rattle.pipe_model.specs.Replies.{deliver_told}
-use Rattle.pipe_model.specs.Lawful.{posted}
-use Rattle.pipe_model.specs.Flows.{flow_step}
+use Rattle.pipe_model.specs.Ends.{Half}
+use Rattle.pipe_model.specs.Wires.{landing}
 use Rattle.rc_link.specs.declared.Carried.{Carried}
-use Rattle.rc_link.specs.Wire.{Queues, placed, next_cdc, landing as would_land, with_landed, room_of}
+use Rattle.rc_link.specs.Wire.{Queues, placed, next_cdc, landing as would_land, with_landed}
 use Rattle.conn_end.specs.Kept.{Kept}
 use Rattle.side_core.specs.Records.{aimer, conn_at}
 use Rattle.side_core.specs.Comings.{IsGoingAt}
-use Rattle.side_core.specs.Acting.{IsSoundAt, MayConfirm, MayWrite, acts_at, bytes_land, confirms_link, confirming_posts, due_at}
-use Rattle.side_core.specs.Landing.{LandsIn, MayGoOut, MayLandIn, dropped}
+use Rattle.side_core.specs.Acting.{MayWrite, bytes_land}
+use Rattle.side_core.specs.Landing.{MayGoOut}
 use Rattle.side_core.specs.Manager.{Manager, StandsFor}
 use Rattle.world_core.specs.declared.host.Host.{Host}
 use Rattle.world_core.specs.declared.moment.Moment.{Moment}
-use Rattle.world_core.specs.OneLink.{the_link}
-use Rattle.world_core.specs.Managers.{manager_of, changes_end}
+use Rattle.world_core.specs.Managers.{manager_of}
 use Rattle.world_core.specs.Leaving.{HasLanded, with_wire}
-use Rattle.world_core.specs.Landed.{buffer_of, waiting_posts}
+use Rattle.world_core.specs.Landed.{buffer_of}
 use Rattle.world_core.specs.Steps.{entry_of}
-use Rattle.world_core.specs.Sending.{carried_from, goes_on_wire, puts_all, MaySendAll}
-use Rattle.world_core.specs.Hosts.{IsPlayedBy, past_of, with_posts}
-use Rattle.world_core.proofs.WireEntries.{IsTaken}
-use Rattle.world_core.proofs.LinkEntries.{IsConfirmed}
-use Rattle.world_core.proofs.LandedEnds.{left-stands}
-use Rattle.world_core.proofs.MessageEnds.{AreSized, landing as message-landing}
-use Rattle.world_core.proofs.WriteEnds.{writing, wire-posts, buffer-stays-cdc, buffer-stays-llc}
-use Rattle.world_core.proofs.ConfirmEnds.{confirmation, Front}
-use Rattle.world_core.proofs.SoundEnds.{sound-at}
+use Rattle.world_core.specs.Hosts.{IsPlayedBy, past_of}
+use Rattle.world_core.proofs.WriteEnds.{writing}
 use Rattle.world_core.proofs.OnWire.{landing-is, next-lands, never-clc, sent-by}
-use Rattle.world_core.proofs.LandingEntries.{write-told, lands-write, message-told, lands-message, llc-told, lands-llc}
-use Rattle.world_core.proofs.LandingsAfter.{Taker, one-lands, few-before, lent-now, quiet-landing, sent-landing, may-be-sent, has-room, twice}
+use Rattle.world_core.proofs.LandingEntries.{write-told, lands-write}
+use Rattle.world_core.proofs.LandingsAfter.{one-lands, few-before, lent-now, quiet-landing}
 
 module _ (at : Moment) (x : Side) (c : Carried) (h k : Host) (landed : HasLanded at x c h k) (few : length at.history.now < 2 ^ 18) where
   abbrev First : Host
@@ -78,7 +60,6 @@ module _ (at : Moment) (x : Side) (c : Carried) (h k : Host) (landed : HasLanded
 
   left : h.wire ≡ with_landed (would_land landed.before) landed.before
   left = landed.wire ∙ ap (λ o. with_landed o landed.before) (sym landed.first)
-
 
   -- no CLC message goes on a wire
   pub not-clc : (from : Side) (s : ℕ) (link : Option LinkId) (m : ClcMessage) → c.post ≡ Clc from s link m → ⊥

@@ -1,5 +1,5 @@
 -- An entry that lands a post, or none: what becomes of both managers and what is posted, by the post that lands.
-use Rattle.std.proofs.Common.{◌≡◌, ◌∙◌, ℕ, ◌+◌, Bool, true, false, if◌then◌else◌, List, [], ◌∷◌, map, refl, ap, sym, subst}
+use Rattle.std.proofs.Common.{◌≡◌, ◌∙◌, ℕ, ◌+◌, Bool, true, false, if◌then◌else◌, List, [], ◌∷◌, refl, ap, sym, subst}
 use Rattle.std.specs.Prelude.{Option, Some, None, is_some}
 use Rattle.smc_num.specs.declared.Side.{Side}
 use Rattle.smc_num.specs.declared.Side.TheVariants.{A, B}
@@ -19,7 +19,7 @@ use Rattle.pipe_model.specs.declared.entry.Entry.{Entry}
 use Rattle.pipe_model.specs.declared.sent.Sent.{Sent}
 use Rattle.pipe_model.specs.Ends.{to_land}
 use Rattle.pipe_model.specs.Wires.{landing, unlanded}
-use Rattle.pipe_model.specs.Lending.{Lending, record_of}
+use Rattle.pipe_model.specs.Lending.{Lending}
 use Rattle.pipe_model.specs.Replies.{deliver_told, lands_told}
 use Rattle.pipe_model.specs.Lawful.{posted}
 use Rattle.pipe_model.specs.Messages.{confirm_link}

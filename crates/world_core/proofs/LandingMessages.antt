@@ -1,6 +1,6 @@
 -- A CDC message, and CONFIRM LINK or the reply to it, has just landed: the peer takes it, and posts what becomes due.
-use Rattle.std.proofs.Common.{◌≡◌, ◌∙◌, ℕ, ◌+◌, ◌≤◌, ◌<◌, ◌^◌, Bool, true, false, if◌then◌else◌, List, [], ◌∷◌, ◌++◌, length, map, filter, refl, ap, sym, subst}
-use Rattle.std.specs.Prelude.{Option, Some, None}
+use Rattle.std.proofs.Common.{◌≡◌, ◌∙◌, ℕ, ◌+◌, ◌≤◌, ◌<◌, ◌^◌, Bool, true, List, [], ◌∷◌, length, map, filter, ap, sym, subst}
+use Rattle.std.specs.Prelude.{Some, None}
 use Rattle.smc_num.specs.declared.Side.{Side}
 use Rattle.smc_num.specs.declared.LinkId.{LinkId}
 use Rattle.smc_num.specs.Names.{other}
@@ -9,12 +9,10 @@ use Rattle.llc_wire.specs.declared.LlcMessage.{LlcMessage}
 use Rattle.rmb_region.specs.Regions.{Buffer}
 use Rattle.pipe_model.specs.declared.event.Event.TheVariants.{Deliver}
 use Rattle.pipe_model.specs.declared.reply.Reply.TheVariants.{Landed}
-use Rattle.pipe_model.specs.declared.flow.FlowStep.{FlowStep}
 use Rattle.pipe_model.specs.declared.flow.FlowStep.TheVariants.{Live}
 use Rattle.pipe_model.specs.declared.flow.LinkView.{LinkView}
 use Rattle.pipe_model.specs.declared.post.Post.{Post}
 use Rattle.pipe_model.specs.declared.post.Post.TheVariants.{Cdc, Llc}
-use Rattle.pipe_model.specs.declared.post.Placed.{Placed}
 use Rattle.pipe_model.specs.declared.sent.Sent.{Sent}
 use Rattle.pipe_model.specs.declared.entry.Entry.{Entry}
 use Rattle.pipe_model.specs.Ends.{Half, takes, lands}
@@ -23,7 +21,7 @@ use Rattle.pipe_model.specs.Replies.{deliver_told}
 use Rattle.pipe_model.specs.Lawful.{posted}
 use Rattle.pipe_model.specs.Flows.{flow_step}
 use Rattle.rc_link.specs.declared.Carried.{Carried}
-use Rattle.rc_link.specs.Wire.{Queues, placed, landing as would_land, with_landed, room_of}
+use Rattle.rc_link.specs.Wire.{placed, landing as would_land, with_landed, room_of}
 use Rattle.conn_end.specs.Kept.{Kept}
 use Rattle.side_core.specs.Records.{conn_at}
 use Rattle.side_core.specs.Acting.{IsSoundAt, MayConfirm, acts_at, confirms_link, confirming_posts, due_at}

@@ -1,11 +1,10 @@
 -- Both hosts after a landing: what the peer of the sender takes, what it posts, and what stays at the sender.
-use Rattle.std.proofs.Common.{◌≡◌, ◌∙◌, ◌⊎◌, inl, inr, ℕ, ◌+◌, ◌≤◌, ◌<◌, ◌^◌, ◌==◌, ◌&&◌, Bool, true, false, if◌then◌else◌, List, [], ◌∷◌, ◌++◌, length, map, filter, reverse, refl, ap, sym, subst, true≢false, arith}
+use Rattle.std.proofs.Common.{◌≡◌, ◌∙◌, inl, inr, ℕ, ◌+◌, ◌≤◌, ◌<◌, ◌^◌, true, if◌then◌else◌, List, [], ◌∷◌, length, filter, refl, ap, sym, subst, true≢false}
 use Rattle.std.proofs.lemmas.List.{length-reverse}
-use Rattle.std.specs.Prelude.{Option, Some, None, option_map, option_and_then, is_some}
+use Rattle.std.specs.Prelude.{Option, Some, None, option_and_then, is_some}
 use Rattle.smc_num.specs.declared.Side.{Side}
 use Rattle.smc_num.specs.declared.Side.TheVariants.{A, B}
-use Rattle.smc_num.specs.declared.LinkId.{LinkId}
-use Rattle.smc_num.specs.Names.{other, same_side, same_link}
+use Rattle.smc_num.specs.Names.{other, same_link}
 use Rattle.rmb_region.specs.Regions.{Buffer}
 use Rattle.pipe_model.specs.declared.setup.Setup.{Setup}
 use Rattle.pipe_model.specs.declared.event.Event.TheVariants.{Deliver}
@@ -17,14 +16,13 @@ use Rattle.pipe_model.specs.declared.post.Placed.{Placed}
 use Rattle.pipe_model.specs.declared.entry.Entry.{Entry}
 use Rattle.pipe_model.specs.Words.{passes}
 use Rattle.pipe_model.specs.History.{next_number}
-use Rattle.pipe_model.specs.Fabric.{is_latest, latest}
+use Rattle.pipe_model.specs.Fabric.{is_latest}
 use Rattle.pipe_model.specs.Wires.{landing, landing_on, lands_on, if_latest}
 use Rattle.pipe_model.specs.Fallback.{written}
 use Rattle.pipe_model.specs.Ends.{Half}
 use Rattle.pipe_model.specs.Replies.{told, deliver_told}
 use Rattle.pipe_model.specs.Lawful.{posted}
-use Rattle.rc_link.specs.declared.Carried.{Carried}
-use Rattle.rc_link.specs.Wire.{Queues, placed, landing as would_land, with_landed, room_of}
+use Rattle.rc_link.specs.Wire.{Queues, landing as would_land, with_landed, room_of}
 use Rattle.conn_end.specs.Kept.{Kept}
 use Rattle.side_core.specs.Manager.{Manager, StandsFor}
 use Rattle.world_core.specs.declared.host.Host.{Host}
@@ -35,7 +33,7 @@ use Rattle.world_core.specs.Agreement.{IsOnlyLink}
 use Rattle.world_core.specs.Played.{IsPlayed, handed}
 use Rattle.world_core.specs.WireSteps.{landing_now}
 use Rattle.world_core.specs.Managers.{manager_of, HasLendings}
-use Rattle.world_core.specs.Leaving.{HasLanded, with_wire}
+use Rattle.world_core.specs.Leaving.{with_wire}
 use Rattle.world_core.specs.Landed.{buffer_of}
 use Rattle.world_core.specs.Steps.{entry_of}
 use Rattle.world_core.specs.Sending.{carried_from, goes_on_wire, moved, puts_all, MaySendAll}
@@ -71,6 +69,7 @@ one-on : (x : Side) (at : PostRef) → lands_on x 1 (Deliver 1 x) (Landed at) �
 one-on A at = refl
 one-on B at = refl
 
+-- a landing brings no bytes into a stream
 not-written : (payload : List ℕ) (y x : Side) (s : ℕ) (reply : Reply) (past : List Entry) → written payload y s (Deliver 1 x) reply past ≡ []
 not-written payload A x s reply past = refl
 not-written payload B x s reply past = refl
@@ -80,6 +79,7 @@ latest-where : (x : Side) (past : List Entry) (c : Placed) → IsOnlyLink past �
 latest-where x past c (inl e) f = absurd (true≢false (sym (ap (λ (o : Option Placed). is_some o) (sym (ap (λ o. option_and_then (λ link. landing_on link x past) o) e) ∙ f))))
 latest-where x past c (inr e) f = ap (λ o. passes (same_link the_link) o) e.0
 
+-- both hosts, whoever the actor was
 module _ (setup : Setup) (payload : List ℕ) (past : List Entry) (heard : ℕ) (x : Side) (h k : Host) (before : AreHostsAfter setup payload past heard x h k) (few : length past < 2 ^ 18) (actor : ℕ) where
   abbrev Now : Entry
   Now = entry_of setup payload past heard actor (Deliver 1 x)
@@ -210,7 +210,7 @@ module _ (at : Moment) (x : Side) (h k : Host) (hosts : AreHosts at x h k) (few 
       let is : Idle ≡ deliver_told S P (other x) Past (landing 1 x Past) = sym (ap (λ o. deliver_told S P (other x) Past o) nothing) in
       quiet-landing w k.core Idle posts is posts_now (λ regions actor. lands-nothing S set.one P Past at.heard hosts.played lent-now regions x actor nothing) wire_is
       (λ actor. subst (λ (b : Buffer). StandsFor k.core (manager_of S P (b ∷ []) (other x) Past))
-        (sym (buffer-stays S P x (After actor) Past (ap (λ r. if_latest the_link Past (lands_on x 1 (Deliver 1 x) r)) (sym is) ∙ (ap (λ n. if_latest the_link Past n) (idle-on x) ∙ if-none Past)))) theirs.side)
+      (sym (buffer-stays S P x (After actor) Past (ap (λ r. if_latest the_link Past (lands_on x 1 (Deliver 1 x) r)) (sym is) ∙ (ap (λ n. if_latest the_link Past n) (idle-on x) ∙ if-none Past)))) theirs.side)
 
   -- what the host of the peer posts
   module _ (v : Manager Kept) (posts : List Post) (posts_now : posts ≡ posted at.setup.now at.payload.now (past_of at) at.heard (Deliver 1 x))
@@ -242,6 +242,6 @@ module _ (at : Moment) (x : Side) (h k : Host) (hosts : AreHosts at x h k) (few 
         is-played w l reply posts m reply_now posts_now wire_is is own_stands
         (λ actor. subst (λ u. StandsFor u (Taker S P Past at.heard x h k hosts few-before actor)) (sym core_is) (stands actor))
         (λ n taken.
-          sent_is n (subst (λ u. StandsFor u n) core_is taken)
-          ∙ (ap (λ i. with_posts (carried_from n i 1 posts) k.wire) next ∙ ap (λ (ps : List Post). with_posts (carried_from n (next_number Past) 1 ps) k.wire) posts_now))
+        sent_is n (subst (λ u. StandsFor u n) core_is taken)
+        ∙ (ap (λ i. with_posts (carried_from n i 1 posts) k.wire) next ∙ ap (λ (ps : List Post). with_posts (carried_from n (next_number Past) 1 ps) k.wire) posts_now))
         (flows_are ∙ ap (λ (ps : List Post). puts_all ps k.flows.items) posts_now)

@@ -1,4 +1,4 @@
-use Rattle.std.proofs.Common.{◌≡◌, ◌∙◌, ◌+◌, ◌≤◌, List, ap, refl, sym, subst, length, filter}
+use Rattle.std.proofs.Common.{◌∙◌, ◌+◌, ◌≤◌, List, ap, refl, sym, subst, length, filter}
 use Rattle.pipe_model.specs.declared.post.Post.{Post}
 use Rattle.rc_link.specs.Wire.{room_of}
 use Rattle.world_core.specs.Sending.{goes_on_wire, puts_all, carried_from, MaySendAll}

@@ -1,5 +1,5 @@
-use Rattle.std.proofs.Common.{◌≡◌, ◌∙◌, ◌+◌, ◌≤◌, ◌++◌, List, ap, refl, sym, subst, length, filter}
-use Rattle.std.specs.Prelude.{Option, Some, None}
+use Rattle.std.proofs.Common.{◌∙◌, ◌+◌, ◌≤◌, ◌++◌, List, ap, refl, sym, subst, length, filter}
+use Rattle.std.specs.Prelude.{Some}
 use Rattle.pipe_model.specs.declared.post.Post.{Post}
 use Rattle.pipe_model.specs.Ends.{takes}
 use Rattle.rc_link.specs.Wire.{room_of}

@@ -1,4 +1,4 @@
-use Rattle.std.proofs.Common.{◌≡◌, ◌∙◌, ◌+◌, ◌≤◌, ◌++◌, List, true, ap, refl, sym, subst, length, filter}
+use Rattle.std.proofs.Common.{◌∙◌, ◌+◌, ◌≤◌, ◌++◌, List, true, ap, refl, sym, subst, length, filter}
 use Rattle.smc_num.specs.declared.LinkId.{LinkId}
 use Rattle.pipe_model.specs.declared.flow.FlowStep.{FlowStep}
 use Rattle.pipe_model.specs.declared.flow.FlowStep.TheVariants.{Live}
@@ -30,10 +30,10 @@ send-requires-clause-may c =
     let stood = theirs-stand c.args.moment c.args.dir c.args.landed c.args.own.now c.args.theirs.now c.requires.landed c.requires.few in
     let step = did.step ∙ d.step _ in
     let due = did.posts was stood
-        ∙ (ap (λ (ps : List Post). ps ++ confirming_posts c.land_llc.result c.args.link was) c.requires.none
-        ∙ (ap (λ (r : FlowStep). confirming_posts r c.args.link was) step ∙ ap (λ (l : LinkId). confirming_posts (Live d.reply true) l was) d.link_is)) in
+    ∙ (ap (λ (ps : List Post). ps ++ confirming_posts c.land_llc.result c.args.link was) c.requires.none
+    ∙ (ap (λ (r : FlowStep). confirming_posts r c.args.link was) step ∙ ap (λ (l : LinkId). confirming_posts (Live d.reply true) l was) d.link_is)) in
     let acted = subst (λ (l : LinkId). StandsFor c.land_llc.new.self (confirms_link (Live d.reply true) l was)) d.link_is
-        (subst (λ (r : FlowStep). StandsFor c.land_llc.new.self (confirms_link r c.args.link was)) step (did.side was stood)) in
+    (subst (λ (r : FlowStep). StandsFor c.land_llc.new.self (confirms_link r c.args.link was)) step (did.side was stood)) in
     subst (λ (ps : List Post). MaySendAll (length c.args.theirs.now.flows.items) c.land_llc.new.self ps) (sym slice.value)
     (posts-may-go c.args.moment c.args.dir c.args.landed c.args.own.now c.args.theirs.now c.requires.landed c.requires.few _ _ _ d.taking d.told c.land_llc.new.self c.land_llc.new.posts.items due acted)
 
@@ -46,10 +46,10 @@ send-requires-clause-room c =
     let stood = theirs-stand c.args.moment c.args.dir c.args.landed c.args.own.now c.args.theirs.now c.requires.landed c.requires.few in
     let step = did.step ∙ d.step _ in
     let due = did.posts was stood
-        ∙ (ap (λ (ps : List Post). ps ++ confirming_posts c.land_llc.result c.args.link was) c.requires.none
-        ∙ (ap (λ (r : FlowStep). confirming_posts r c.args.link was) step ∙ ap (λ (l : LinkId). confirming_posts (Live d.reply true) l was) d.link_is)) in
+    ∙ (ap (λ (ps : List Post). ps ++ confirming_posts c.land_llc.result c.args.link was) c.requires.none
+    ∙ (ap (λ (r : FlowStep). confirming_posts r c.args.link was) step ∙ ap (λ (l : LinkId). confirming_posts (Live d.reply true) l was) d.link_is)) in
     let acted = subst (λ (l : LinkId). StandsFor c.land_llc.new.self (confirms_link (Live d.reply true) l was)) d.link_is
-        (subst (λ (r : FlowStep). StandsFor c.land_llc.new.self (confirms_link r c.args.link was)) step (did.side was stood)) in
+    (subst (λ (r : FlowStep). StandsFor c.land_llc.new.self (confirms_link r c.args.link was)) step (did.side was stood)) in
     subst (λ (ps : List Post). length (filter goes_on_wire ps) ≤ room_of c.args.theirs.now.wire) (sym slice.value)
     (posts-fit c.args.moment c.args.dir c.args.landed c.args.own.now c.args.theirs.now c.requires.landed c.requires.few _ _ _ d.taking d.told c.land_llc.new.self c.land_llc.new.posts.items due acted)
 
@@ -62,10 +62,10 @@ returns c =
     let stood = theirs-stand c.args.moment c.args.dir c.args.landed c.args.own.now c.args.theirs.now c.requires.landed c.requires.few in
     let step = did.step ∙ d.step _ in
     let due = did.posts was stood
-        ∙ (ap (λ (ps : List Post). ps ++ confirming_posts c.land_llc.result c.args.link was) c.requires.none
-        ∙ (ap (λ (r : FlowStep). confirming_posts r c.args.link was) step ∙ ap (λ (l : LinkId). confirming_posts (Live d.reply true) l was) d.link_is)) in
+    ∙ (ap (λ (ps : List Post). ps ++ confirming_posts c.land_llc.result c.args.link was) c.requires.none
+    ∙ (ap (λ (r : FlowStep). confirming_posts r c.args.link was) step ∙ ap (λ (l : LinkId). confirming_posts (Live d.reply true) l was) d.link_is)) in
     let acted = subst (λ (l : LinkId). StandsFor c.land_llc.new.self (confirms_link (Live d.reply true) l was)) d.link_is
-        (subst (λ (r : FlowStep). StandsFor c.land_llc.new.self (confirms_link r c.args.link was)) step (did.side was stood)) in
+    (subst (λ (r : FlowStep). StandsFor c.land_llc.new.self (confirms_link r c.args.link was)) step (did.side was stood)) in
     let sent = c.send.ensures in
     message-lands c.args.moment c.args.dir c.args.landed c.args.own.now c.args.theirs.now c.requires.landed c.requires.few _ _ _ d.taking d.told c.land_llc.new.self c.land_llc.new.posts.items due acted d.own_stands c.send.new.self (length c.args.moment.history.now + 1) refl sent.core
     (λ n stands. sent.wire n stands ∙ ap (λ (ps : List Post). with_posts (carried_from n (length c.args.moment.history.now + 1) 1 ps) c.args.theirs.now.wire) slice.value)
