@@ -11,6 +11,8 @@ pub mod Batched
 pub mod Batches
 pub mod BoundKeys
 pub mod CallEntries
+pub mod CallStates
+pub mod CallsAfter
 pub mod Carried
 pub mod CarriedPosts
 pub mod Carrying
@@ -20,6 +22,7 @@ pub mod ClcMoves
 pub mod ClcPosts
 pub mod ClcTaken
 pub mod CompletionEntries
+pub mod CompletionsAfter
 pub mod ConfirmEnds
 pub mod ConfirmEntries
 pub mod ConfirmManagers
@@ -27,6 +30,7 @@ pub mod Confirmations
 pub mod Confirming
 pub mod Counts
 pub mod DataPosts
+pub mod DataSends
 pub mod Declines
 pub mod DirectedWrites
 pub mod Due
@@ -60,8 +64,13 @@ pub mod KeptManagers
 pub mod KeyedEnds
 pub mod KnownEntries
 pub mod Landed
+pub mod LandedEnds
+pub mod LandingCases
+pub mod LandingEntries
+pub mod LandingMessages
 pub mod LandingNow
 pub mod Landings
+pub mod LandingsAfter
 pub mod LastSent
 pub mod LastingLendings
 pub mod LaterConfirms
@@ -90,6 +99,7 @@ pub mod NextEvents
 pub mod NoResets
 pub mod Offers
 pub mod OnWay
+pub mod OnWire
 pub mod OneSender
 pub mod OpenEnds
 pub mod OpenManagers
@@ -112,6 +122,9 @@ pub mod QuietEntries
 pub mod QuietEvents
 pub mod QuietManagers
 pub mod QuitManagers
+pub mod ReadAnswers
+pub mod ReadTold
+pub mod ReadsAfter
 pub mod ReadyManagers
 pub mod Records
 pub mod Relending
@@ -148,13 +161,8 @@ pub mod Verdicts
 pub mod Ways
 pub mod WireEntries
 pub mod WireKept
-pub mod ReadAnswers
-pub mod CallsAfter
-pub mod CallStates
-pub mod WritesAfter
-pub mod ReadTold
-pub mod ReadsAfter
 pub mod WireMoves
 pub mod WiresAfter
 pub mod WorldAfter
 pub mod WriteEnds
+pub mod WritesAfter

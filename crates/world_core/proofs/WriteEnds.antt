@@ -31,7 +31,7 @@ use Rattle.pipe_model.specs.Home.{following_cdc}
 use Rattle.pipe_model.specs.Posts.{offered_place}
 use Rattle.pipe_model.proofs.Facts.{is-counted}
 use Rattle.rc_link.specs.declared.Carried.{Carried}
-use Rattle.rc_link.specs.Wire.{Queues, placed}
+use Rattle.rc_link.specs.Wire.{Queues, placed, next_cdc}
 use Rattle.conn_end.specs.Kept.{Kept, StandsFor as EndStandsFor}
 use Rattle.side_core.specs.Records.{conn_at, aimer}
 use Rattle.side_core.specs.Manager.{Manager, StandsFor}
@@ -46,7 +46,7 @@ use Rattle.world_core.specs.Wired.{cdc_under, if_meant}
 use Rattle.world_core.specs.WireSteps.{EachPost, EachPlaced, landing_now}
 use Rattle.world_core.specs.Directed.{GoesHome, IsDirected, IsUnderWay}
 use Rattle.world_core.specs.Agreement.{IsElse}
-use Rattle.world_core.specs.Landed.{next_cdc, carried, bytes_of, written_for, first_lands, peer_buffer, buffer_of, waiting_posts, Carries, Reaches, IsRmb}
+use Rattle.world_core.specs.Landed.{carried, bytes_of, written_for, first_lands, peer_buffer, buffer_of, waiting_posts, Carries, Reaches, IsRmb}
 use Rattle.world_core.specs.Hosts.{IsWorldSet, IsWireAfter, half_of}
 use Rattle.world_core.specs.Managers.{manager_of, HasLendings}
 use Rattle.world_core.proofs.Heads.{unlanded-there, gave, Gave}
