@@ -34,7 +34,7 @@ heard-long setup payload (e ∷ older) n p heard h =
     omega (arith, before, given, all, count)
 
 module _ (setup : Setup) (one : IsOneLink setup) (payload : List ℕ) where
-  lawful-step : (e : Entry) (past : List Entry) (n : ℕ) (p : IsPlayed setup payload (e ∷ past) n) (before heard : List ℕ) → length before ≡ p.0 → AddsBytes setup payload past e.event before heard → IsStep setup payload past before e heard
+  pub lawful-step : (e : Entry) (past : List Entry) (n : ℕ) (p : IsPlayed setup payload (e ∷ past) n) (before heard : List ℕ) → length before ≡ p.0 → AddsBytes setup payload past e.event before heard → IsStep setup payload past before e heard
   lawful-step e past n p before heard long a = let made = p.1 in record {
     reply = made.reply ∙ ap (λ k. reply_of k (told setup payload past e.event)) (sym long);
     posts = made.posts ∙ ap (λ k. posted setup payload past k e.event) (sym long);
@@ -59,7 +59,7 @@ module _ (setup : Setup) (one : IsOneLink setup) (payload : List ℕ) where
   )
 
 -- the bytes of the answers are such bytes
-is-given : (claimed : Bool) (t : Told) → Given claimed t (told_bytes t)
+pub is-given : (claimed : Bool) (t : Told) → Given claimed t (told_bytes t)
 is-given claimed (Plain reply) = refl
 is-given claimed (Hands bytes) = record { as_long = refl; same = λ c. refl }
 

@@ -76,6 +76,7 @@ pub mod LastingLendings
 pub mod LaterConfirms
 pub mod LaterManagers
 pub mod LawfulPasts
+pub mod LawfulWorlds
 pub mod LendingFacts
 pub mod Lendings
 pub mod LentRows
@@ -153,6 +154,7 @@ pub mod TakenMessages
 pub mod TakenMessagesAll
 pub mod TakingsAfter
 pub mod TellsKept
+pub mod ToldByPipes
 pub mod Tokens
 pub mod TokensOnWay
 pub mod Unmade

@@ -7,6 +7,7 @@ pub mod Heard
 pub mod Hosts
 pub mod Lacking
 pub mod Landed
+pub mod LawfulWorlds
 pub mod Leaving
 pub mod Lent
 pub mod Managers

@@ -22,6 +22,7 @@ mod settings;
 mod stream_laws;
 mod wire_laws;
 mod world;
+mod world_laws;
 
 pub use byte_laws::{
     a_buffer_is_the_rmb, the_bytes_of_an_end_reach, told_bytes_stand_in_the_element,
@@ -55,3 +56,7 @@ pub use wire_laws::{
     what_completes_is_next_to_complete, what_lands_is_next_to_land, wires_and_pipes_agree,
 };
 pub use world::{NewFault, World};
+pub use world_laws::{
+    a_lawful_world_has_a_lawful_history, calls_were_told_by_their_pipes, equal_parts_were_told_the_same,
+    every_run_of_steps_is_lawful,
+};

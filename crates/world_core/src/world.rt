@@ -1,13 +1,14 @@
 //! The world: what was set, what has happened, what was handed out, and the two hosts.
-ghost use Rattle.std.specs.Prelude.{◌≡◌, ◌↔◌, ◌≤◌, ◌<◌, ◌+◌, ◌^◌, ◌++◌, ◌∷◌, [], ℕ, length, vec_len, vec_capacity, IfOk, IfSome, IsTrue, None, Some, Err, option_to_list};
+ghost use Rattle.std.specs.Prelude.{◌≡◌, ◌↔◌, ◌≤◌, ◌<◌, ◌+◌, ◌^◌, ◌++◌, ◌∷◌, [], ℕ, length, vec_len, vec_capacity, IfOk, IfSome, IsTrue, None, Some, Err, option_to_list, reverse};
 ghost use Rattle.std.specs.List.{All, find, flat_map};
 ghost use Rattle.smc_num.specs.declared.Side.TheVariants.{A};
 ghost use Rattle.smc_num.specs.Names.{up_to};
 ghost use Rattle.pipe_model.specs.Fits.{Fits};
-ghost use Rattle.world_core.specs.Played.{handed};
-ghost use Rattle.world_core.specs.Heard.{told_bytes};
+ghost use Rattle.pipe_model.specs.Lawful.{IsLawful, IsStep};
+ghost use Rattle.world_core.specs.Played.{IsOneLink, IsPlayed, handed};
+ghost use Rattle.world_core.specs.Heard.{all_bytes, told_bytes};
 ghost use Rattle.world_core.specs.Settings.{bad_field as first_bad};
-ghost use Rattle.world_core.specs.Steps.{fresh_world, refusal, reply_to, stepped, step_answer, after_step, does_something, slot_events, socket_events, next_event, opened_socket, opening_order, past, pump_answer, after_pump, told_by};
+ghost use Rattle.world_core.specs.Steps.{fresh_world, refusal, reply_to, stepped, step_answer, after_step, does_something, slot_events, socket_events, next_event, opened_socket, opening_order, past, pump_answer, after_pump, told_by, entry_of};
 ghost use Rattle.world_core.specs.Hosts.{AreHosts, IsPlayedBy, told_at};
 ghost use Rattle.world_core.specs.declared.settings.BadField.{BadField as Bad};
 ghost use Rattle.world_core.specs.declared.world.NewFault.TheVariants.{BadSetup};
@@ -246,6 +247,8 @@ impl World {
         requires fits { Fits self.old.setup (length self.old.payload) event }
         ensures reply { result ≡ step_answer event self.old }
         ensures world { self.new ≡ after_step actor event self.old }
+        ensures lawful { IfOk result (λ reply. IsStep self.old.setup self.old.payload (past self.old) self.old.heard
+            (entry_of self.old.setup self.old.payload (past self.old) (length self.old.heard) actor event) self.new.heard) }
     {
         match self.refusal(event) {
             Some(fault) => Err(fault),
@@ -259,6 +262,8 @@ impl World {
         requires room { refusal self.old event ≡ None }
         ensures reply { result ≡ reply_to self.old event }
         ensures world { self.new ≡ stepped actor event self.old }
+        ensures lawful { IsStep self.old.setup self.old.payload (past self.old) self.old.heard
+            (entry_of self.old.setup self.old.payload (past self.old) (length self.old.heard) actor event) self.new.heard }
     {
         let mut posts = ArrayVec::new();
         let moment = Moment {
@@ -370,17 +375,22 @@ impl World {
         }
     }
 
-    /// All entries, the oldest first.
+    /// All entries, the oldest first: a lawful history, with the bytes that were handed out. Each entry has
+    /// the reply and the posts that the definitions give, so all laws of such histories hold of it.
     pub fn history(&self) -> &[Entry]
         ensures history { result.now ≡ self.now.history }
         ensures few { length result.now ≤ 2 ^ 18 }
+        ensures lawful { IsLawful self.now.setup self.now.payload self.now.history self.now.heard }
+        ensures played { IsPlayed self.now.setup self.now.payload (reverse self.now.history) (length self.now.heard) }
+        ensures one { IsOneLink self.now.setup }
     {
         self.history.as_slice()
     }
 
     /// All bytes that reads handed out, in order.
     pub fn heard(&self) -> &[u8]
-        ensures { result.now ≡ self.now.heard }
+        ensures heard { result.now ≡ self.now.heard }
+        ensures all { self.now.heard ≡ all_bytes self.now.setup self.now.payload (reverse self.now.history) }
     {
         self.heard.as_slice()
     }
