@@ -4,4 +4,5 @@ pub mod Worlds
 pub mod Commands
 pub mod Inputs
 pub mod Parts
+pub mod Shares
 pub mod Showing

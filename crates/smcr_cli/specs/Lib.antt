@@ -1,5 +1,6 @@
 pub mod Answers
 pub mod Prints
+pub mod Shares
 pub mod Runs
 pub mod ShowLines
 pub mod ShowText

@@ -2,13 +2,14 @@
 ghost use Rattle.std.specs.Prelude.{◌≡◌, ◌++◌, ◌+◌, ◌<◌, ◌≤◌, ◌^◌, ℕ, OnOk, IfOk, [], codes, length};
 ghost use Rattle.std.specs.List.{sum_by, flat_map};
 ghost use Rattle.std.specs.Fmt.{decimal};
-ghost use Rattle.scene_text.specs.HistoryText.{actor_text, who_text, what_text, entry_text, entries_text, socket_of, begins_socket, listed_with, listed_after, sockets_after, is_call_on, taken_by, handed_by, wrote_at, read_at, sums_text, socket_text, end_line, history_text};
+ghost use Rattle.scene_text.specs.HistoryText.{actor_text, who_text, what_text, entry_text, entries_text, socket_of, begins_socket, listed_with, listed_after, sockets_after, taken_by, handed_by, socket_text, end_line, history_text};
 ghost use Rattle.smcr_cli.specs.Prints.{names_of, printed};
+ghost use Rattle.smcr_cli.specs.Shares.{caller, share_of, shares_of, wrote_in, read_in, shared_sums_text, shared_socket_text};
 
 use crate::print_posts::push_posts;
 use crate::print_replies::push_reply;
 use crate::spell::{push_event, push_name, push_number, push_text};
-use pipe_model::{Entry, Event, Reply, Side, StepFault};
+use pipe_model::{End, Entry, Event, Reply, Side, StepFault};
 use std::alloc::{AllocError, Global};
 
 /// What the text of a history needs besides its entries.
@@ -128,86 +129,136 @@ fn list_sockets(alloc: Global, history: &[Entry]) -> Result<Vec<u32>, AllocError
     Ok(sockets)
 }
 
-/// Whether an event is a call on the end; the bytes of a raw client count as A's.
-fn is_call(side: Side, s: u32, event: Event) -> bool
-    ensures { result ≡ is_call_on side s event }
+/// The end on which an event is a call; the bytes of a raw client count as A's.
+fn caller(event: Event) -> Option<End>
+    ensures { result ≡ caller event }
 {
     match event {
-        Event::Raw { s: t, .. } => side == Side::A && t == s,
-        Event::Write { end, .. } | Event::Read { end, .. } => side == end.side && end.s == s,
-        _ => false,
+        Event::Raw { s, .. } => Some(End { side: Side::A, s }),
+        Event::Write { end, .. } | Event::Read { end, .. } => Some(end),
+        _ => None,
     }
 }
 
-/// The bytes that an entry takes from the application at an end.
-fn wrote(side: Side, s: u32, entry: &Entry) -> u32
-    ensures { result ≡ wrote_at side s entry.now }
+/// How many bytes a reply says were taken.
+fn taken(reply: Reply) -> u32
+    ensures { result ≡ taken_by reply }
 {
-    match entry.reply {
-        Reply::Wrote(n) if is_call(side, s, entry.event) => n,
+    match reply {
+        Reply::Wrote(n) => n,
         _ => 0,
     }
 }
 
-/// The bytes that an entry hands to the application at an end.
-fn read(side: Side, s: u32, entry: &Entry) -> u32
-    ensures { result ≡ read_at side s entry.now }
+/// How many bytes a reply says were handed out.
+fn handed(reply: Reply) -> u32
+    ensures { result ≡ handed_by reply }
 {
-    match entry.reply {
-        Reply::Bytes { len, .. } if is_call(side, s, entry.event) => len,
+    match reply {
+        Reply::Bytes { len, .. } => len,
         _ => 0,
+    }
+}
+
+/// What one entry took from the application at an end, and handed to it. A history's shares are far
+/// smaller than its entries, so each socket's sums are cheap.
+#[derive(Clone, Copy)]
+pub struct Share {
+    pub end: End,
+    pub wrote: u32,
+    pub read: u32,
+}
+
+/// Lists the share of an entry that is a call.
+fn push_share(shares: &mut Vec<Share>, entry: &Entry) -> Result<(), AllocError>
+    ensures { OnOk result (shares.new.items ≡ shares.old.items ++ share_of entry.now) }
+{
+    if let Some(end) = caller(entry.event) {
+        shares.push(Share {
+            end,
+            wrote: taken(entry.reply),
+            read: handed(entry.reply),
+        })?;
+    }
+    Ok(())
+}
+
+/// The shares of a history.
+fn list_shares(alloc: Global, history: &[Entry]) -> Result<Vec<Share>, AllocError>
+    ensures { IfOk result (λ shares. shares.items ≡ shares_of history.now) }
+{
+    let mut shares = Vec::new(alloc);
+    for entry in history {
+        push_share(&mut shares, entry)?;
+    }
+    Ok(shares)
+}
+
+/// The bytes of a share that were taken at an end.
+fn wrote(side: Side, s: u32, share: &Share) -> u32
+    ensures { result ≡ wrote_in side s share.now }
+{
+    if side == share.end.side && share.end.s == s {
+        share.wrote
+    } else {
+        0
+    }
+}
+
+/// The bytes of a share that were handed out at an end.
+fn read(side: Side, s: u32, share: &Share) -> u32
+    ensures { result ≡ read_in side s share.now }
+{
+    if side == share.end.side && share.end.s == s {
+        share.read
+    } else {
+        0
     }
 }
 
 /// All bytes that the application wrote at an end.
-fn wrote_in_all(side: Side, s: u32, history: &[Entry]) -> u64
-    requires { length history.now < 2 ^ 32 }
-    ensures { result ≡ sum_by (wrote_at side s) history.now }
+fn wrote_in_all(side: Side, s: u32, shares: &[Share]) -> u64
+    requires { length shares.now < 2 ^ 32 }
+    ensures { result ≡ sum_by (wrote_in side s) shares.now }
 {
-    history
-        .iter()
-        .map(|entry| wrote(side, s, entry) as u64)
-        .sum()
+    shares.iter().map(|share| wrote(side, s, share) as u64).sum()
 }
 
 /// All bytes that the application read at an end.
-fn read_in_all(side: Side, s: u32, history: &[Entry]) -> u64
-    requires { length history.now < 2 ^ 32 }
-    ensures { result ≡ sum_by (read_at side s) history.now }
+fn read_in_all(side: Side, s: u32, shares: &[Share]) -> u64
+    requires { length shares.now < 2 ^ 32 }
+    ensures { result ≡ sum_by (read_in side s) shares.now }
 {
-    history
-        .iter()
-        .map(|entry| read(side, s, entry) as u64)
-        .sum()
+    shares.iter().map(|share| read(side, s, share) as u64).sum()
 }
 
 /// Appends what an end wrote and read in all.
-fn push_sums(out: &mut Vec<u8>, history: &[Entry], side: Side, s: u32) -> Result<(), AllocError>
-    requires { length history.now < 2 ^ 32 }
-    ensures { OnOk result (out.new.items ≡ out.old.items ++ sums_text history.now side s) }
+fn push_sums(out: &mut Vec<u8>, shares: &[Share], side: Side, s: u32) -> Result<(), AllocError>
+    requires { length shares.now < 2 ^ 32 }
+    ensures { OnOk result (out.new.items ≡ out.old.items ++ shared_sums_text shares.now side s) }
 {
     push_text(out, " wrote ")?;
-    push_number(out, wrote_in_all(side, s, history))?;
+    push_number(out, wrote_in_all(side, s, shares))?;
     push_text(out, " read ")?;
-    push_number(out, read_in_all(side, s, history))
+    push_number(out, read_in_all(side, s, shares))
 }
 
 /// Appends the line of a socket: its name, and the sums of its ends.
 fn push_socket(
     out: &mut Vec<u8>,
     names: &[String],
-    history: &[Entry],
+    shares: &[Share],
     s: u32,
 ) -> Result<(), AllocError>
-    requires { length history.now < 2 ^ 32 }
-    ensures { OnOk result (out.new.items ≡ out.old.items ++ socket_text (names_of names.now) history.now s) }
+    requires { length shares.now < 2 ^ 32 }
+    ensures { OnOk result (out.new.items ≡ out.old.items ++ shared_socket_text (names_of names.now) shares.now s) }
 {
     push_text(out, "socket ")?;
     push_name(out, names, s)?;
     push_text(out, " A")?;
-    push_sums(out, history, Side::A, s)?;
+    push_sums(out, shares, Side::A, s)?;
     push_text(out, " B")?;
-    push_sums(out, history, Side::B, s)?;
+    push_sums(out, shares, Side::B, s)?;
     push_text(out, "\n")
 }
 
@@ -215,14 +266,14 @@ fn push_socket(
 fn push_sockets(
     out: &mut Vec<u8>,
     names: &[String],
-    history: &[Entry],
+    shares: &[Share],
     sockets: &[u32],
 ) -> Result<(), AllocError>
-    requires { length history.now < 2 ^ 32 }
-    ensures { OnOk result (out.new.items ≡ out.old.items ++ flat_map (socket_text (names_of names.now) history.now) sockets.now) }
+    requires { length shares.now < 2 ^ 32 }
+    ensures { OnOk result (out.new.items ≡ out.old.items ++ flat_map (shared_socket_text (names_of names.now) shares.now) sockets.now) }
 {
     for s in sockets {
-        push_socket(out, names, history, *s)?;
+        push_socket(out, names, shares, *s)?;
     }
     Ok(())
 }
@@ -251,6 +302,22 @@ fn push_end_line(
     }
 }
 
+/// Appends the lines of all sockets that a history has.
+#[tactic(auto, using(crate::proofs::Shares::few_shares, crate::proofs::Shares::same_sockets))]
+fn push_all_sockets(
+    alloc: Global,
+    out: &mut Vec<u8>,
+    names: &[String],
+    history: &[Entry],
+) -> Result<(), AllocError>
+    requires { length history.now < 2 ^ 32 }
+    ensures { OnOk result (out.new.items ≡ out.old.items ++ flat_map (socket_text (names_of names.now) history.now) (sockets_after [] history.now)) }
+{
+    let sockets = list_sockets(alloc, history)?;
+    let shares = list_shares(alloc, history)?;
+    push_sockets(out, names, &shares, &sockets)
+}
+
 /// Appends the text of a history: its entries, its sockets, how it ended.
 pub fn push_history(
     alloc: Global,
@@ -263,7 +330,6 @@ pub fn push_history(
     ensures { OnOk result (out.new.items ≡ out.old.items ++ history_text (printed texts.now) history.now stop) }
 {
     push_entries(out, texts, history)?;
-    let sockets = list_sockets(alloc, history)?;
-    push_sockets(out, texts.names, history, &sockets)?;
+    push_all_sockets(alloc, out, texts.names, history)?;
     push_end_line(out, history.len(), stop)
 }
