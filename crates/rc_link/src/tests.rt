@@ -48,19 +48,22 @@ fn write() -> Carried {
     carried(7, 1, post, NOTHING)
 }
 
-fn told() -> Carried {
-    let message = CdcMessage {
+fn message() -> CdcMessage {
+    CdcMessage {
         number: 1,
         token: 1,
         told: Cursor { wrap: 0, count: 2 },
         read: START,
         producer: 0,
         state: 0,
-    };
+    }
+}
+
+fn told() -> Carried {
     let post = Post::Cdc {
         from: Side::A,
         link: LINK,
-        message,
+        message: message(),
     };
     carried(7, 2, post, TOLD)
 }
@@ -85,8 +88,10 @@ fn posts_land_and_complete_in_order(rt: HostRuntime) -> Result<(), Fail> {
     wire.post(told());
     wire.post(test_link());
     assert_eq!(rt; wire.room(), 1);
+    assert_eq!(rt; wire.next_cdc(), Some(message()));
     assert_eq!(rt; wire.land(), Some(write()));
     assert_eq!(rt; wire.land(), Some(told()));
+    assert_eq!(rt; wire.next_cdc(), None);
     assert_eq!(rt; wire.complete(), Some(write()));
     assert_eq!(rt; wire.land(), Some(test_link()));
     assert!(rt; !wire.can_land() && wire.can_complete());

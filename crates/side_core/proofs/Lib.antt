@@ -23,6 +23,7 @@ pub mod Offering
 pub mod OneRmb
 pub mod Seats
 pub mod Shelving
+pub mod Sizes
 pub mod Standing
 pub mod Steps
 pub mod Tables

@@ -18,12 +18,12 @@ use Rattle.world_core.specs.Managers.{HasLendings}
 use Rattle.world_core.specs.OneLink.{Stage}
 use Rattle.world_core.specs.Played.{IsBuilt, IsOneLink, IsPlayed}
 use Rattle.pipe_model.specs.declared.reply.Lack.TheVariants.{NotCapable}
-use Rattle.world_core.specs.Sockets.{Socket, Unopened, StandsAt, IsWorld, HasWorld, suits, offered_at, opened_at, end_at, untaken_at}
+use Rattle.world_core.specs.Sockets.{Socket, Unopened, StandsAt, IsWorld, suits, offered_at, opened_at, end_at, untaken_at}
 use Rattle.pipe_model.specs.declared.event.Event.{Event}
 use Rattle.pipe_model.specs.declared.event.Event.TheVariants.{Open, Write, Read, Clc, Deliver, Complete}
 use Rattle.pipe_model.specs.declared.reply.Reply.{Reply}
 use Rattle.pipe_model.specs.declared.reply.Reply.TheVariants.{NameUsed, Declined, Opened}
-use Rattle.pipe_model.specs.Connections.{EndState, WaitsAnswer, WaitsProposal, HasFallen, end_state, early_state, after_event, after_loss, group_on}
+use Rattle.pipe_model.specs.Connections.{EndState, WaitsAnswer, WaitsProposal, HasFallen, early_state, after_event, after_loss, group_on}
 use Rattle.world_core.proofs.PlayedWorlds.{played as has-world, goes}
 use Rattle.world_core.proofs.LinkFacts.{no-group-ends-with}
 use Rattle.pipe_model.specs.Lending.{lends, leaves_handshake}

@@ -7,11 +7,9 @@ use Rattle.pipe_model.specs.Ends.{Half}
 use Rattle.pipe_model.specs.Fabric.{table_of}
 use Rattle.pipe_model.specs.Handshake.{lacks, on_accept, on_confirm, on_proposal}
 use Rattle.pipe_model.specs.History.{Offered, offered}
-use Rattle.pipe_model.specs.Keys.{offers}
 use Rattle.pipe_model.specs.Lending.{free_places}
 use Rattle.pipe_model.specs.Messages.{proposal}
 use Rattle.pipe_model.specs.Pipe.{half}
-use Rattle.pipe_model.specs.Plain.{begun}
 use Rattle.pipe_model.specs.Posts.{offered_place}
 use Rattle.pipe_model.specs.declared.entry.Entry.{Entry}
 use Rattle.pipe_model.specs.declared.post.Post.{Post}
@@ -47,10 +45,9 @@ use Rattle.world_core.proofs.TakenAlone.{IsTakenBy, accept-declined, answer-refu
 use Rattle.world_core.specs.Agreement.{IsShaken}
 use Rattle.world_core.specs.Lent.{AreLendings, IsOfOffer}
 use Rattle.world_core.specs.Managers.{HasLendings, manager_of}
-use Rattle.world_core.specs.OneLink.{Begun, LiveAtBoth, Made, Stage, the_link}
+use Rattle.world_core.specs.OneLink.{Begun, IsAtStage, LiveAtBoth, Made, Stage, the_link}
 use Rattle.world_core.specs.Played.{IsOneLink, IsPlayed}
-use Rattle.world_core.specs.Sockets.{Socket, Unopened, Fallen, Proposed, Refused, FirstAccepted, FirstConfirmed, AwaitsLink, FirstUpAtA, FirstUp, Accepted, AcceptRefused, AcceptFallen, Confirmed, Up, StandsAt, IsWorld, IsOffer, suits, end_at, untaken_at, offered_at, on_link}
-use Rattle.pipe_model.specs.declared.event.Event.{Event}
+use Rattle.world_core.specs.Sockets.{Socket, Proposed, Refused, FirstAccepted, FirstConfirmed, Accepted, AcceptRefused, Confirmed, StandsAt, IsWorld, IsOffer, suits, end_at, untaken_at, offered_at, on_link}
 use Rattle.pipe_model.specs.declared.event.Event.TheVariants.{Clc}
 use Rattle.pipe_model.specs.declared.reply.Reply.{Reply}
 use Rattle.pipe_model.specs.declared.reply.Reply.TheVariants.{Idle, Held, Sent, Declined, Established, FellBack}
@@ -59,7 +56,7 @@ use Rattle.pipe_model.specs.declared.verdict.ClcStep.{ClcStep}
 use Rattle.pipe_model.specs.declared.verdict.ClcStep.TheVariants.{SendAccept, SendConfirm, Wait, Decline, Fell, Ready}
 use Rattle.clc_wire.specs.declared.message.ClcMessage.{ClcMessage}
 use Rattle.clc_wire.specs.declared.message.ClcMessage.TheVariants.{Proposal as ProposalMessage, Accept as AcceptMessage, Confirm as ConfirmMessage, Decline as DeclineMessage}
-use Rattle.pipe_model.specs.Connections.{EndState, IsUp, WaitsConfirm, WaitsProposal, WaitsAnswer, end_state, early_state, after_event, after_loss, is_up, named_link, group_on}
+use Rattle.pipe_model.specs.Connections.{EndState, WaitsProposal, end_state, early_state, after_event, after_loss, is_up, named_link, group_on}
 use Rattle.world_core.proofs.Offers.{has-free, unlent-free, none-lent}
 use Rattle.world_core.proofs.Verdicts.{OnProposal, OnAccept, refuses, holds, begins, joins, on-proposal, on-first, on-later, on-confirm}
 use Rattle.world_core.proofs.PlayedWorlds.{played as has-world}
@@ -67,11 +64,11 @@ use Rattle.world_core.proofs.Handshakes.{offer-of}
 use Rattle.world_core.proofs.ReadyManagers.{asks-to-confirm}
 use Rattle.world_core.proofs.EstablishedManagers.{comes-up-later}
 use Rattle.world_core.proofs.TakenMessages.{end-is, told-is, begun-with, made-with, live-with}
-use Rattle.pipe_model.specs.Fallback.{Front, Whole, front, front_of, front_of_posts, stream, untaken, is_raw}
+use Rattle.pipe_model.specs.Fallback.{Whole, front, front_of, front_of_posts, stream, untaken}
 use Rattle.pipe_model.specs.Replies.{clc_step, clc_told, expects, front_told, step_told}
 use Rattle.pipe_model.specs.Handshake.{verdict}
 use Rattle.world_core.proofs.LinkFacts.{no-group-ends-with}
-use Rattle.pipe_model.specs.Lending.{Lending, lends, lends_by, lendings, lent, leaves_handshake, pipe_of}
+use Rattle.pipe_model.specs.Lending.{Lending, lends, lent, leaves_handshake, pipe_of}
 use Rattle.side_core.specs.Landing.{is_wait}
 
 -- what becomes of the manager of the peer: where A has sent the Confirm of first contact, the link is made there
@@ -90,9 +87,16 @@ pub record IsTaken (setup : Setup) (payload : List ℕ) (regions : List Buffer) 
   pub own : manager_of setup payload regions x (e ∷ past) ≡ takes_message s m link (paths_of past) (manager_of setup payload regions x past)
   pub theirs : manager_of setup payload regions (other x) (e ∷ past) ≡ link_with e.reply (manager_of setup payload regions (other x) past)
 
+-- that a Confirm of first contact is sent by A alone, as it takes the Accept of B
+pub record Confirms (setup : Setup) (x : Side) (s : ℕ) (past : List Entry) : Type 0 where
+  pub side : x ≡ A
+  pub begun : IsAtStage setup (Begun s) past
+  pub link : link_of B s past ≡ the_link
+
 -- that, and each socket has its lending
 pub record IsTakenSo (setup : Setup) (payload : List ℕ) (regions : List Buffer) (x : Side) (s : ℕ) (m : ClcMessage) (link : LinkId) (e : Entry) (past : List Entry) : Type 0 where
   pub taken : IsTaken setup payload regions x s m link e past
+  pub confirms : e.reply ≡ Sent ConfirmSent → Confirms setup x s past
   pub lendings_are : HasLendings setup payload (e ∷ past)
 
 -- an entry in which nothing is taken
@@ -167,9 +171,10 @@ module _ (setup : Setup) (one : IsOneLink setup) (payload : List ℕ) (regions :
   fresh-at x a b before q = fresh-ends setup one payload past before q s a b x
 
   -- a message is taken
-  from-alone : (dir : Side) (reply : Reply) (m : ClcMessage) (link : LinkId) → ((v : Manager Half) → link_with reply v ≡ v)
+  from-alone : (dir : Side) (reply : Reply) (m : ClcMessage) (link : LinkId) → ((v : Manager Half) → link_with reply v ≡ v) → (reply ≡ Sent ConfirmSent → ⊥)
       → IsTakenBy setup payload regions (other dir) s m link (entry-of actor (Clc s dir) reply posts) past → IsTakenSo setup payload regions (other dir) s m link (entry-of actor (Clc s dir) reply posts) past
-  from-alone dir reply m link same t = record {
+  from-alone dir reply m link same other_reply t = record {
+    confirms = λ e. absurd (other_reply e);
     taken = record { reply = t.reply; posts = t.posts; own = t.own; theirs = t.theirs ∙ sym (same (manager_of setup payload regions (other (other dir)) past)) };
     lendings_are = t.lendings_are;
   }
@@ -219,7 +224,7 @@ module _ (setup : Setup) (one : IsOneLink setup) (payload : List ℕ) (regions :
       by : OnProposal stage (length (free_places setup payload B past) == 0) (on_proposal false (proposal setup) (lacks setup payload B past)) → Goal A reply (ProposalMessage (proposal setup)) no_link
       by (refuses lack e) =
           told-so A reply (Declined lack) (ProposalMessage (proposal setup)) no_link p (told-by Proposed A (ProposalMessage (proposal setup)) (Decline lack) at refl refl (step-at (Decline lack) e) reply p)
-          (λ q. from-alone A (Declined lack) (ProposalMessage (proposal setup)) no_link (λ v. refl)
+          (λ q. from-alone A (Declined lack) (ProposalMessage (proposal setup)) no_link (λ v. refl) (λ e. cc)
           (proposal-declined setup payload regions stage past one.links world was actor n s posts known (proposal setup) (clc_length (ProposalMessage (proposal setup))) lack state (front-by Proposed A (ProposalMessage (proposal setup)) at refl) (step-at (Decline lack) e) q (shaken-now A (Declined lack) q) no_link))
       by (holds hold e) =
           told-so A reply (Held hold) (ProposalMessage (proposal setup)) no_link p (told-by Proposed A (ProposalMessage (proposal setup)) (Wait hold) at refl refl (step-at (Wait hold) e) reply p)
@@ -238,6 +243,7 @@ module _ (setup : Setup) (one : IsOneLink setup) (payload : List ℕ) (regions :
                   own = i.kept B ∙ sym f.0;
                   theirs = i.kept A;
                 };
+                confirms = λ e. cc;
                 lendings_are = lendings-last setup one payload (entry-of actor (Clc s A) (Held hold) posts) past n q was
                     (by-side (λ x. (t : ℕ) → leaves_handshake x t (Clc s A) (Held hold) ≡ false) (λ t. refl) (λ t. and-false (t == s)))
                     (λ x. ap (λ (ps : List Post). filter_map (lends x) ps) i.posts)
@@ -246,13 +252,13 @@ module _ (setup : Setup) (one : IsOneLink setup) (payload : List ℕ) (regions :
       by (begins is none e) =
           let f = has-free setup payload B past one.rmbs_b none in
           told-so A reply (Sent AcceptSent) (ProposalMessage (proposal setup)) no_link p (told-by Proposed A (ProposalMessage (proposal setup)) (SendAccept true) at refl refl (step-at (SendAccept true) e) reply p)
-          (λ q. from-alone A (Sent AcceptSent) (ProposalMessage (proposal setup)) no_link (λ v. refl)
+          (λ q. from-alone A (Sent AcceptSent) (ProposalMessage (proposal setup)) no_link (λ v. refl) (λ e. cc)
           (first-accepted setup one payload regions past was s known f.0 f.1 (fresh-at B (at.up A) (at.up B) p.0 p.3) (proposal setup) (clc_length (ProposalMessage (proposal setup))) state (front-by Proposed A (ProposalMessage (proposal setup)) at refl) actor n posts q (shaken-now A (Sent AcceptSent) q)
           (subst (λ (st : Stage). IsWorld setup st past) is world) (step-at (SendAccept true) e)))
       by (joins u is none e) =
           let f = has-free setup payload B past one.rmbs_b none in
           told-so A reply (Sent AcceptSent) (ProposalMessage (proposal setup)) no_link p (told-by Proposed A (ProposalMessage (proposal setup)) (SendAccept false) at refl refl (step-at (SendAccept false) e) reply p)
-          (λ q. from-alone A (Sent AcceptSent) (ProposalMessage (proposal setup)) no_link (λ v. refl)
+          (λ q. from-alone A (Sent AcceptSent) (ProposalMessage (proposal setup)) no_link (λ v. refl) (λ e. cc)
           (later-accepted setup one payload regions past was s known f.0 f.1 (fresh-at B (at.up A) (at.up B) p.0 p.3) (proposal setup) (clc_length (ProposalMessage (proposal setup))) state (front-by Proposed A (ProposalMessage (proposal setup)) at refl) actor n posts q (shaken-now A (Sent AcceptSent) q)
           u (subst (λ (st : Stage). IsWorld setup st past) is world) (step-at (SendAccept false) e)))
 
@@ -261,7 +267,7 @@ module _ (setup : Setup) (one : IsOneLink setup) (payload : List ℕ) (regions :
   on-the-decline reply r at p =
       let st = step-is setup payload (Refused r) s A past (DeclineMessage r) Fell at refl in
       told-so B reply FellBack (DeclineMessage r) no_link p (told-by (Refused r) B (DeclineMessage r) Fell at refl refl st reply p)
-      (λ q. from-alone B FellBack (DeclineMessage r) no_link (λ v. refl)
+      (λ q. from-alone B FellBack (DeclineMessage r) no_link (λ v. refl) (λ e. cc)
       (answer-refused setup payload regions stage past one.links world was actor n s posts known r (clc_length (DeclineMessage r)) (end-is setup (Refused r) s past at A) (front-by (Refused r) B (DeclineMessage r) at refl) st q (shaken-now B FellBack q) no_link))
 
   -- A takes the Accept of first contact
@@ -275,8 +281,11 @@ module _ (setup : Setup) (one : IsOneLink setup) (payload : List ℕ) (regions :
       told-so B reply (Sent ConfirmSent) (AcceptMessage o) the_link p (told-by (FirstAccepted o) B (AcceptMessage o) (SendConfirm true) at refl refl st reply p)
       (λ q. so (first-confirmed setup one payload regions past s w was known f.0 f.1 (fresh-at A (at.up A) (at.up B) p.0 p.3) o (clc_length (AcceptMessage o)) (at.offer B) (front-by (FirstAccepted o) B (AcceptMessage o) at refl) st actor n posts q (shaken-now B (Sent ConfirmSent) q)))
     where
+      at_begun : IsAtStage setup (Begun s) past
+      at_begun = subst (λ (st : Stage). IsAtStage setup st past) begun world.link
+
       so : IsFirstConfirmed setup payload regions s o (entry-of actor (Clc s B) (Sent ConfirmSent) posts) past → Goal B (Sent ConfirmSent) (AcceptMessage o) the_link
-      so t = record { taken = record { reply = t.taken; posts = t.posts; own = t.own; theirs = t.theirs }; lendings_are = t.lendings_are }
+      so t = record { taken = record { reply = t.taken; posts = t.posts; own = t.own; theirs = t.theirs }; confirms = λ e. record { side = refl; begun = at_begun; link = ap (λ (q : Option Offered). unwrap_or (option_map (λ r. r.link) q) no_link) (at.offer B) }; lendings_are = t.lendings_are }
 
   named-by : (k : Socket) (o : Offer) → StandsAt setup k s past → offered_at k B ≡ on_link o → named_link s past ≡ Some the_link
   named-by k o at e = ap (λ (q : Option Offered). option_map (λ r. r.link) q) (at.offer B ∙ e)
@@ -289,7 +298,7 @@ module _ (setup : Setup) (one : IsOneLink setup) (payload : List ℕ) (regions :
       let v : on_confirm c (lacks setup payload B past) ≡ Ready = on-confirm setup payload past (Made s) c w.link refl j.psn in
       let st = step-is setup payload (FirstConfirmed o c) s B past (ConfirmMessage c) Ready at v in
       told-so A reply (Sent LinkSent) (ConfirmMessage c) the_link p (told-by (FirstConfirmed o c) A (ConfirmMessage c) Ready at refl refl st reply p ∙ ap (λ b. if b then Sent LinkSent else Established) j.first_is)
-      (λ q. from-alone A (Sent LinkSent) (ConfirmMessage c) the_link (λ v. refl)
+      (λ q. from-alone A (Sent LinkSent) (ConfirmMessage c) the_link (λ v. refl) (λ e. cc)
       (asks-to-confirm setup payload regions past one.links s w was actor n posts known c (clc_length (ConfirmMessage c)) (at.offer A) (named-by (FirstConfirmed o c) o at refl) j.first_is (end-is setup (FirstConfirmed o c) s past at B) (at.up B)
       (front-by (FirstConfirmed o c) A (ConfirmMessage c) at refl) st q (shaken-now A (Sent LinkSent) q)))
 
@@ -309,12 +318,12 @@ module _ (setup : Setup) (one : IsOneLink setup) (payload : List ℕ) (regions :
       by : OnAccept (length (free_places setup payload A past) == 0) (on_accept o (lacks setup payload A past)) → Goal B reply (AcceptMessage o) the_link
       by (refuses lack e) =
           told-so B reply (Declined lack) (AcceptMessage o) the_link p (told-by (Accepted o) B (AcceptMessage o) (Decline lack) at refl refl (step-at (Decline lack) e) reply p)
-          (λ q. from-alone B (Declined lack) (AcceptMessage o) the_link (λ v. refl)
+          (λ q. from-alone B (Declined lack) (AcceptMessage o) the_link (λ v. refl) (λ e. cc)
           (accept-declined setup payload regions stage past one.links world was actor n s posts known o (clc_length (AcceptMessage o)) lack (end-is setup (Accepted o) s past at A) (front-by (Accepted o) B (AcceptMessage o) at refl) (step-at (Decline lack) e) q (shaken-now B (Declined lack) q) the_link))
       by (joins none e) =
           let f = has-free setup payload A past one.rmbs_a none in
           told-so B reply Established (AcceptMessage o) the_link p (told-by (Accepted o) B (AcceptMessage o) (SendConfirm false) at refl refl (step-at (SendConfirm false) e) reply p)
-          (λ q. from-alone B Established (AcceptMessage o) the_link (λ v. refl)
+          (λ q. from-alone B Established (AcceptMessage o) the_link (λ v. refl) (λ e. cc)
           (later-confirmed setup one payload regions past u s w was known f.0 f.1 (fresh-at A (at.up A) (at.up B) p.0 p.3) o (clc_length (AcceptMessage o)) at (front-by (Accepted o) B (AcceptMessage o) at refl) (step-at (SendConfirm false) e) actor n posts q (shaken-now B Established q)))
 
   -- B takes a Confirm of later contact
@@ -325,7 +334,7 @@ module _ (setup : Setup) (one : IsOneLink setup) (payload : List ℕ) (regions :
       let v : on_confirm c (lacks setup payload B past) ≡ Ready = on-confirm setup payload past (LiveAtBoth u) c w.link refl j.psn in
       let st = step-is setup payload (Confirmed o c) s B past (ConfirmMessage c) Ready at v in
       told-so A reply Established (ConfirmMessage c) the_link p (told-by (Confirmed o c) A (ConfirmMessage c) Ready at refl refl st reply p ∙ ap (λ b. if b then Sent LinkSent else Established) j.first_is)
-      (λ q. from-alone A Established (ConfirmMessage c) the_link (λ v. refl)
+      (λ q. from-alone A Established (ConfirmMessage c) the_link (λ v. refl) (λ e. cc)
       (comes-up-later setup payload regions past one.links u s w was actor n posts known c (clc_length (ConfirmMessage c)) (at.offer A) (named-by (Confirmed o c) o at refl) j.first_is j.rmb (end-is setup (Confirmed o c) s past at B) (at.up B)
       (front-by (Confirmed o c) A (ConfirmMessage c) at refl) st q (shaken-now A Established q) o (at.offer B)))
 
@@ -336,7 +345,7 @@ module _ (setup : Setup) (one : IsOneLink setup) (payload : List ℕ) (regions :
       let st = step-is setup payload (AcceptRefused o r) s B past (DeclineMessage r) Fell at refl in
       let a : AreLendings setup payload B past = played-lendings setup one payload past p.0 p.3 B in
       told-so A reply FellBack (DeclineMessage r) no_link p (told-by (AcceptRefused o r) A (DeclineMessage r) Fell at refl refl st reply p)
-      (λ q. from-alone A FellBack (DeclineMessage r) no_link (λ v. refl)
+      (λ q. from-alone A FellBack (DeclineMessage r) no_link (λ v. refl) (λ e. cc)
       (confirm-refused setup payload regions stage past one.links one.rmbs_b world was actor n s posts r (clc_length (DeclineMessage r)) o known (at.offer B) i (end-is setup (AcceptRefused o r) s past at B) (at.up B) a.places
       (of-place setup payload B s past o (at.offer B) a) (front-by (AcceptRefused o r) A (DeclineMessage r) at refl) st q (shaken-now A FellBack q) no_link))
 

@@ -1,17 +1,15 @@
 -- An entry that completes a post, or none: what becomes of both managers and what is posted, by the post that completes.
-use Rattle.std.proofs.Common.{◌≡◌, ◌∙◌, ℕ, ◌+◌, Bool, true, false, if◌then◌else◌, List, [], ◌∷◌, refl, ap, sym, subst}
-use Rattle.std.specs.Prelude.{Option, Some, None}
+use Rattle.std.proofs.Common.{◌≡◌, ℕ, ◌+◌, List, ◌∷◌, refl, ap, sym, subst}
+use Rattle.std.specs.Prelude.{Some, None}
 use Rattle.smc_num.specs.declared.Side.{Side}
 use Rattle.smc_num.specs.declared.LinkId.{LinkId}
 use Rattle.smc_num.specs.Names.{head}
-use Rattle.cdc_wire.specs.declared.CdcMessage.{CdcMessage}
 use Rattle.rmb_region.specs.Regions.{Buffer}
 use Rattle.pipe_model.specs.declared.setup.Setup.{Setup}
 use Rattle.pipe_model.specs.declared.event.Event.TheVariants.{Complete}
 use Rattle.pipe_model.specs.declared.reply.Reply.{Reply}
 use Rattle.pipe_model.specs.declared.reply.Reply.TheVariants.{Idle, Completed}
-use Rattle.pipe_model.specs.declared.post.Post.{Post}
-use Rattle.pipe_model.specs.declared.post.Post.TheVariants.{Write as WritePost, Cdc}
+use Rattle.pipe_model.specs.declared.post.Post.TheVariants.{Write as WritePost}
 use Rattle.pipe_model.specs.declared.post.Placed.{Placed}
 use Rattle.pipe_model.specs.declared.entry.Entry.{Entry}
 use Rattle.pipe_model.specs.declared.sent.Sent.{Sent}
@@ -19,7 +17,6 @@ use Rattle.pipe_model.specs.History.{post_at}
 use Rattle.pipe_model.specs.Ends.{to_complete}
 use Rattle.pipe_model.specs.Wires.{completing, completed_told}
 use Rattle.pipe_model.specs.Lawful.{posted}
-use Rattle.world_core.specs.OneLink.{the_link}
 use Rattle.world_core.specs.Agreement.{IsShaken}
 use Rattle.world_core.specs.Played.{IsOneLink, IsPlayed, IsMade}
 use Rattle.world_core.specs.Steps.{entry_of}

@@ -1,6 +1,6 @@
 -- The LLC message at the front of a wire is CONFIRM LINK or the reply to it, and the manager at the other side may take it.
-use Rattle.std.proofs.Common.{◌≡◌, ◌∙◌, ℕ, ◌==◌, ◌<◌, Bool, true, false, if◌then◌else◌, List, [], ◌∷◌, map, filter_map, refl, ap, sym, subst, true≢false, eq-eqb}
-use Rattle.std.specs.Prelude.{Option, Some, None, is_some, option_map, unwrap_or}
+use Rattle.std.proofs.Common.{◌≡◌, ◌∙◌, ℕ, ◌==◌, Bool, true, false, List, [], ◌∷◌, map, refl, ap, sym, subst, eq-eqb}
+use Rattle.std.specs.Prelude.{Some}
 use Rattle.smc_num.specs.declared.Side.{Side}
 use Rattle.smc_num.specs.declared.Side.TheVariants.{A, B}
 use Rattle.smc_num.specs.declared.LinkId.{LinkId}
@@ -17,9 +17,9 @@ use Rattle.pipe_model.specs.declared.post.Placed.{Placed}
 use Rattle.pipe_model.specs.declared.flow.LinkView.{LinkView}
 use Rattle.pipe_model.specs.declared.flow.FlowStep.{FlowStep}
 use Rattle.pipe_model.specs.declared.flow.FlowStep.TheVariants.{Live}
-use Rattle.pipe_model.specs.History.{Offered, offered}
+use Rattle.pipe_model.specs.History.{Offered}
 use Rattle.pipe_model.specs.Flows.{flow_step}
-use Rattle.pipe_model.specs.Fabric.{Fabric, fabric, peer}
+use Rattle.pipe_model.specs.Fabric.{Fabric, peer}
 use Rattle.pipe_model.specs.Connections.{WaitsLink}
 use Rattle.pipe_model.specs.Wires.{unlanded}
 use Rattle.pipe_model.specs.Messages.{confirm_link}
@@ -29,8 +29,8 @@ use Rattle.conn_end.specs.Kept.{Kept}
 use Rattle.side_core.specs.Desk.{Desk, IsConfirmLink, IsPendingFor}
 use Rattle.side_core.specs.Manager.{Manager, StandsFor, state_at}
 use Rattle.side_core.specs.Acting.{MayConfirm, IsWaitingFor}
-use Rattle.world_core.specs.OneLink.{Stage, NoLink, Begun, Made, Asking, LiveAtA, LiveAtBoth, IsAtStage, the_link, llc_of, llc_in, llc_waiting, waiting_at, fabric_at, is_of_first}
-use Rattle.world_core.specs.Sockets.{IsWorld, IsOffer}
+use Rattle.world_core.specs.OneLink.{Stage, NoLink, Begun, Made, Asking, LiveAtA, LiveAtBoth, the_link, llc_of, is_of_first}
+use Rattle.world_core.specs.Sockets.{IsWorld}
 use Rattle.world_core.specs.Played.{IsPlayed}
 use Rattle.world_core.specs.Hosts.{IsWorldSet, IsWireAfter}
 use Rattle.world_core.specs.Managers.{manager_of, first_on}

@@ -1,7 +1,6 @@
 -- What a manager that stands for a played history keeps of a socket: its end's state, its connection, and which tokens name it.
-use Rattle.std.proofs.Common.{◌≡◌, ◌∙◌, ℕ, ◌==◌, ◌<◌, ◌≤◌, Bool, true, false, cond, if◌then◌else◌, nat_lt, List, length, get_or, position, refl, ap, sym, subst, true≢false, arith, eqb-true, eq-eqb, lt-ltb}
+use Rattle.std.proofs.Common.{◌≡◌, ◌∙◌, ℕ, ◌==◌, ◌<◌, Bool, true, false, cond, if◌then◌else◌, nat_lt, List, length, get_or, position, refl, ap, sym, subst, true≢false, arith, eqb-true, eq-eqb, lt-ltb}
 use Rattle.std.specs.Prelude.{Option, Some, None, option_map, is_some, unwrap_or, slice_index_or}
-use Rattle.std.specs.List.{position_or_len}
 use Rattle.std.proofs.lemmas.List.Sums.{position_or_len_is}
 use Rattle.smc_num.specs.declared.Side.{Side}
 use Rattle.smc_num.specs.Names.{other}
@@ -13,18 +12,18 @@ use Rattle.pipe_model.specs.declared.entry.Entry.{Entry}
 use Rattle.pipe_model.specs.Words.{passes}
 use Rattle.pipe_model.specs.History.{Offered, offered}
 use Rattle.pipe_model.specs.Ends.{Half}
-use Rattle.pipe_model.specs.Connections.{EndState, IsUp, is_up, end_state, early_state}
-use Rattle.pipe_model.specs.Lending.{Lending, lends_by, lent}
+use Rattle.pipe_model.specs.Connections.{IsUp, is_up, end_state, early_state}
+use Rattle.pipe_model.specs.Lending.{Lending, lends_by}
 use Rattle.conn_end.specs.Kept.{Kept}
 use Rattle.side_core.specs.declared.route.Route.{Route}
-use Rattle.side_core.specs.Records.{Connection, Records, Stands, StandsAt, conn_at, has_token, is_aimed_at, holder, aimer}
+use Rattle.side_core.specs.Records.{Connection, Stands, StandsAt, conn_at, has_token, is_aimed_at, holder, aimer}
 use Rattle.side_core.specs.Manager.{Manager, StandsFor, state_at, no_hand}
 use Rattle.side_core.proofs.Allowed.{aimers_same}
 use Rattle.side_core.proofs.Counting.{alike_position}
 use Rattle.world_core.specs.Played.{IsOneLink, IsPlayed}
 use Rattle.world_core.specs.OneLink.{the_link}
 use Rattle.world_core.specs.Agreement.{HasOffers}
-use Rattle.world_core.specs.Managers.{manager_of, records_of, conn_of, end_of, hand_of, route_of, heard_on, awaits_confirm, keeps_element, lending_due, lending_on, each_socket, HasLendings}
+use Rattle.world_core.specs.Managers.{manager_of, records_of, conn_of, end_of, hand_of, route_of, heard_on, awaits_confirm, keeps_element, each_socket, HasLendings}
 use Rattle.world_core.proofs.Tables.{at-socket, sockets-long}
 use Rattle.world_core.proofs.Lendings.{lending-due}
 use Rattle.world_core.proofs.KeyedEnds.{behind}

@@ -32,12 +32,12 @@ use Rattle.world_core.specs.Sockets.{FirstUp, FirstUpAtA, HasWorld, IsWorld, Soc
 use Rattle.world_core.specs.WireSteps.{CompletesNow, LandsNow, Way}
 use Rattle.pipe_model.specs.declared.event.End.{End}
 use Rattle.smc_num.specs.declared.LinkPhase.TheVariants.{Pending, Live as LiveLink}
-use Rattle.pipe_model.specs.Ends.{Half, fresh, settle, is_due, posts_batch, present, meets_fate, comes_up, to_land}
+use Rattle.pipe_model.specs.Ends.{Half, fresh, settle, posts_batch, present, meets_fate, to_land}
 use Rattle.pipe_model.specs.Pipe.{Item, Fate, Lands, Completes, Calls, Up, half, pipe, Terms}
 use Rattle.pipe_model.specs.declared.event.Event.TheVariants.{Open, Write, Read, Clc, Deliver, Complete}
 use Rattle.pipe_model.specs.declared.event.Event.{Event}
 use Rattle.pipe_model.specs.Connections.{fate_of, fates, ups, items, part, deeds, if_own, is_up, comes_up as comes_up_with}
-use Rattle.pipe_model.specs.Fabric.{Fabric, peer, fabric, table_of}
+use Rattle.pipe_model.specs.Fabric.{Fabric, peer, table_of}
 use Rattle.world_core.proofs.PlayedWorlds.{played as has-world}
 use Rattle.world_core.proofs.PipeSteps.{rests as rests-still}
 use Rattle.world_core.specs.Wired.{cdc_under, cdcs, message, returning, EachItem, passes_by}

@@ -1,5 +1,5 @@
 -- What an end has not completed goes on from what has, so that its peer was told no less than has completed.
-use Rattle.std.proofs.Common.{◌≡◌, ◌∙◌, ℕ, ◌+◌, ◌-◌, ◌<◌, ◌≤◌, min, Bool, true, false, if◌then◌else◌, List, [], ◌∷◌, ◌++◌, length, take, drop, refl, ap, sym, subst, ◌||◌, true≢false, arith, suc, zero}
+use Rattle.std.proofs.Common.{◌≡◌, ◌∙◌, ℕ, ◌+◌, ◌-◌, ◌<◌, ◌≤◌, min, Bool, true, false, if◌then◌else◌, List, [], ◌∷◌, ◌++◌, length, take, drop, refl, ap, sym, subst, ◌||◌, true≢false, arith}
 use Rattle.std.specs.Prelude.{Option, Some, None, is_some}
 use Rattle.std.proofs.lemmas.List.{drop-append-le, drop-drop, take-append-drop}
 use Rattle.smc_num.specs.declared.Side.{Side}
@@ -19,7 +19,7 @@ use Rattle.pipe_model.proofs.Chains.{next-of}
 use Rattle.pipe_model.proofs.Facts.{is-marked}
 use Rattle.pipe_model.proofs.Parts.{both-after}
 use Rattle.world_core.specs.Wired.{EachItem, keeps_open, IsOpenEnd, IsOpenSent}
-use Rattle.world_core.specs.Landed.{GoOn, Follows}
+use Rattle.world_core.specs.Landed.{GoOn}
 use Rattle.world_core.proofs.Growth.{either, settled-half}
 use Rattle.world_core.proofs.OpenEnds.{takes-open-is, completes-open-is, both-open, apply-open, BothOpen, each-head, MaySent}
 use Rattle.world_core.proofs.Follows.{follows}

@@ -1,7 +1,6 @@
 -- What a host stands for after an entry that leaves its RMB as it is, and how both hosts after an entry are put together.
-use Rattle.std.proofs.Common.{◌≡◌, ◌∙◌, ℕ, ◌+◌, ◌≤◌, ◌<◌, ◌==◌, ◌^◌, Bool, true, false, if◌then◌else◌, List, [], ◌∷◌, ◌++◌, length, refl, ap, sym, subst, append-nil, arith}
+use Rattle.std.proofs.Common.{◌≡◌, ℕ, ◌+◌, ◌<◌, ◌==◌, ◌^◌, Bool, true, false, if◌then◌else◌, List, [], ◌∷◌, length, refl, ap, sym, subst, append-nil, arith}
 use Rattle.smc_num.specs.declared.Side.{Side}
-use Rattle.smc_num.specs.declared.Side.TheVariants.{A, B}
 use Rattle.smc_num.specs.Names.{other}
 use Rattle.rmb_region.specs.Regions.{Buffer}
 use Rattle.pipe_model.specs.declared.setup.Setup.{Setup}
@@ -21,7 +20,7 @@ use Rattle.world_core.specs.WireSteps.{landing_now}
 use Rattle.world_core.specs.Landed.{buffer_of, peer_buffer, first_lands, waiting_posts}
 use Rattle.world_core.specs.Managers.{manager_of}
 use Rattle.world_core.specs.Steps.{entry_of}
-use Rattle.world_core.specs.Hosts.{IsHostAfter, IsWireAfter, AreHostsAfter, IsWorldSet, with_posts}
+use Rattle.world_core.specs.Hosts.{IsHostAfter, AreHostsAfter, with_posts}
 
 abbrev Chosen : Bool → ℕ → ℕ
 Chosen b n = if b then n else 0

@@ -17,11 +17,11 @@ use Rattle.world_core.specs.Played.{IsOneLink, IsPlayed}
 use Rattle.world_core.specs.Sockets.{HasWorld, IsWorld, early_at, end_at, offered_at}
 use Rattle.world_core.specs.Sockets.{Socket, Unopened, Fallen, Proposed, Refused, FirstAccepted, FirstConfirmed, AwaitsLink, FirstUpAtA, FirstUp, Accepted, AcceptRefused, AcceptFallen, Confirmed, Up}
 use Rattle.world_core.proofs.LendingFacts.{found-lending, lends-for}
-use Rattle.pipe_model.specs.Connections.{EndState, NoEnd, WaitsProposal, WaitsAnswer, WaitsConfirm, WaitsLink, IsUp, HasFallen, WasReset, end_state, early_state, is_up, part}
-use Rattle.pipe_model.specs.Ends.{Half, is_over}
+use Rattle.pipe_model.specs.Connections.{EndState, HasFallen, end_state, early_state, part}
+use Rattle.pipe_model.specs.Ends.{is_over}
 use Rattle.world_core.proofs.PlayedWorlds.{played as has-world}
 use Rattle.world_core.proofs.LinkFacts.{no-group-ends-with}
-use Rattle.pipe_model.specs.Lending.{Lending, lends, lends_by, lendings, lent, returns, leaves_handshake, pipe_of, terms_of}
+use Rattle.pipe_model.specs.Lending.{Lending, lends, lendings, lent, returns, leaves_handshake, pipe_of, terms_of}
 use Rattle.pipe_model.specs.Pipe.{half}
 use Rattle.world_core.proofs.TakenMessages.{end-is}
 

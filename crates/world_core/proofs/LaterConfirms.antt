@@ -13,7 +13,6 @@ use Rattle.pipe_model.specs.declared.setup.Setup.{Setup}
 use Rattle.pipe_model.specs.declared.verdict.ClcStep.TheVariants.{SendConfirm}
 use Rattle.rmb_region.specs.Regions.{Buffer}
 use Rattle.side_core.specs.Manager.{Manager}
-use Rattle.side_core.specs.Slots.{found}
 use Rattle.side_core.specs.Taking.{offer_for}
 use Rattle.smc_num.specs.Keys.{key_base, number_for}
 use Rattle.smc_num.specs.Links.{live_links}
@@ -42,7 +41,7 @@ use Rattle.pipe_model.specs.declared.reply.Reply.TheVariants.{Established}
 use Rattle.pipe_model.specs.declared.post.Post.TheVariants.{Clc as ClcPost}
 use Rattle.pipe_model.specs.declared.event.Event.TheVariants.{Clc}
 use Rattle.clc_wire.specs.declared.message.ClcMessage.TheVariants.{Accept as AcceptMessage, Confirm as ConfirmMessage}
-use Rattle.pipe_model.specs.Ends.{Half, fresh, is_due, comes_up, batch}
+use Rattle.pipe_model.specs.Ends.{Half, is_due, comes_up, batch}
 use Rattle.pipe_model.specs.Pipe.{Item, Up, GroupEnd, half, pipe, posts_of, sent_since}
 use Rattle.pipe_model.specs.Connections.{WaitsConfirm, IsUp, end_state, is_up, early_state, named_link, group_on, ups, fates, fate_of, group_end, items, part, comes_up as comes_up_with}
 use Rattle.world_core.proofs.PipeSteps.{rests, sent-by}
@@ -54,7 +53,6 @@ use Rattle.world_core.proofs.PipePosts.{met}
 use Rattle.pipe_model.specs.Posts.{new_offer, next_free, offered_place, connection_posts, clc_posts, confirm_post, sent_posts, end_posts, pipe_posts, is_offered}
 use Rattle.world_core.proofs.Offers.{IsFree, new-is-offer}
 use Rattle.pipe_model.specs.Messages.{offer, pair_on}
-use Rattle.world_core.proofs.KnownEntries.{offers-of}
 use Rattle.pipe_model.specs.Fallback.{Whole, front}
 
 -- what is known of the socket

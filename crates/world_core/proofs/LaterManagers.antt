@@ -3,10 +3,10 @@
 use Rattle.clc_handshake.specs.Stages.{Hand}
 use Rattle.clc_wire.specs.declared.offer.Offer.{Offer}
 use Rattle.pipe_model.specs.Connections.{EndState}
-use Rattle.pipe_model.specs.Fabric.{loses_group_with, peer, table_of}
+use Rattle.pipe_model.specs.Fabric.{loses_group_with, table_of}
 use Rattle.pipe_model.specs.Fallback.{is_raw}
 use Rattle.pipe_model.specs.History.{Offered, offered, offered_if}
-use Rattle.pipe_model.specs.Lending.{Lending, epoch, free_places, leaves_handshake, lendings, lends_by, lent, lent_places, pipe_of, returns, terms_of}
+use Rattle.pipe_model.specs.Lending.{Lending, free_places, leaves_handshake, lendings, lends_by, lent, lent_places, pipe_of, returns, terms_of}
 use Rattle.pipe_model.specs.Messages.{new_pair, pair_number, pair_on, serial}
 use Rattle.pipe_model.specs.Posts.{offered_place}
 use Rattle.pipe_model.specs.Words.{element_size, elements_of, rmbs_of}
@@ -43,9 +43,9 @@ use Rattle.pipe_model.specs.declared.reply.Reply.TheVariants.{Established}
 use Rattle.pipe_model.specs.declared.post.Post.TheVariants.{Clc as ClcPost}
 use Rattle.pipe_model.specs.declared.event.Event.TheVariants.{Clc}
 use Rattle.clc_wire.specs.declared.message.ClcMessage.TheVariants.{Confirm as ConfirmMessage}
-use Rattle.pipe_model.specs.Ends.{Half, fresh, settle, is_due, posts_batch, present, comes_up, is_over}
+use Rattle.pipe_model.specs.Ends.{Half, fresh, settle, is_due, posts_batch, comes_up, is_over}
 use Rattle.pipe_model.specs.Pipe.{Item, Up, half, pipe}
-use Rattle.pipe_model.specs.Connections.{IsUp, WaitsConfirm, is_up, early_state, end_state, after_loss, named_link, group_on, items, part, comes_up as comes_up_with}
+use Rattle.pipe_model.specs.Connections.{IsUp, WaitsConfirm, is_up, early_state, end_state, after_loss, named_link, group_on, items, part}
 use Rattle.element_ledger.specs.Lendings.{Row, changes_at, lends as lends_row, place_of}
 use Rattle.world_core.proofs.ConfirmManagers.{set-set, get-set}
 use Rattle.world_core.proofs.PipeSteps.{rests}

@@ -11,6 +11,8 @@ pub mod Batched
 pub mod Batches
 pub mod BoundKeys
 pub mod CallEntries
+pub mod CallStates
+pub mod CallsAfter
 pub mod Carried
 pub mod CarriedPosts
 pub mod Carrying
@@ -20,6 +22,7 @@ pub mod ClcMoves
 pub mod ClcPosts
 pub mod ClcTaken
 pub mod CompletionEntries
+pub mod CompletionsAfter
 pub mod ConfirmEnds
 pub mod ConfirmEntries
 pub mod ConfirmManagers
@@ -27,6 +30,7 @@ pub mod Confirmations
 pub mod Confirming
 pub mod Counts
 pub mod DataPosts
+pub mod DataSends
 pub mod Declines
 pub mod DirectedWrites
 pub mod Due
@@ -47,7 +51,6 @@ pub mod GoodSettings
 pub mod Groups
 pub mod Grown
 pub mod Growth
-pub mod HandStubs
 pub mod Handshaken
 pub mod Handshakes
 pub mod Heads
@@ -61,7 +64,13 @@ pub mod KeptManagers
 pub mod KeyedEnds
 pub mod KnownEntries
 pub mod Landed
+pub mod LandedEnds
+pub mod LandingCases
+pub mod LandingEntries
+pub mod LandingMessages
+pub mod LandingNow
 pub mod Landings
+pub mod LandingsAfter
 pub mod LastSent
 pub mod LastingLendings
 pub mod LaterConfirms
@@ -78,6 +87,7 @@ pub mod LinkMoves
 pub mod LinkRoom
 pub mod LinkTold
 pub mod Lists
+pub mod MayTakes
 pub mod MessageEnds
 pub mod Moved
 pub mod MovedWires
@@ -90,6 +100,7 @@ pub mod NextEvents
 pub mod NoResets
 pub mod Offers
 pub mod OnWay
+pub mod OnWire
 pub mod OneSender
 pub mod OpenEnds
 pub mod OpenManagers
@@ -112,6 +123,9 @@ pub mod QuietEntries
 pub mod QuietEvents
 pub mod QuietManagers
 pub mod QuitManagers
+pub mod ReadAnswers
+pub mod ReadTold
+pub mod ReadsAfter
 pub mod ReadyManagers
 pub mod Records
 pub mod Relending
@@ -153,3 +167,4 @@ pub mod WireMoves
 pub mod WiresAfter
 pub mod WorldAfter
 pub mod WriteEnds
+pub mod WritesAfter

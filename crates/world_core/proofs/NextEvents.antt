@@ -22,3 +22,10 @@ module _ {X : Type 0} (p : X → Bool) (f : ℕ → List X) (xs : List ℕ) wher
 
   pub found-nowhere : (i : ℕ) → length xs ≤ i → find p (flat_map f (drop i xs)) ≡ find p (flat_map f xs) → None ≡ find p (flat_map f xs)
   found-nowhere i all whole = ap (λ ys. find p (flat_map f ys)) (sym (drop_of_length-le xs all)) ∙ whole
+
+-- the first of two lists is found before any of the second
+pub found-first : {X : Type 0} (p : X → Bool) (xs ys : List X) (x : X) → Some x ≡ find p xs → Some x ≡ find p (xs ++ ys)
+found-first p xs ys x e = ap (λ o. option_or o (find p ys)) e ∙ sym (find-append p xs ys)
+
+pub found-second : {X : Type 0} (p : X → Bool) (xs ys : List X) (o : Option X) → None ≡ find p xs → o ≡ find p ys → o ≡ find p (xs ++ ys)
+found-second p xs ys o none e = e ∙ ap (λ a. option_or a (find p ys)) none ∙ sym (find-append p xs ys)

@@ -1,9 +1,8 @@
 -- What the opening of a socket makes of both hosts: nothing where it was opened before, or its ends begin their handshakes, or fall back.
-use Rattle.std.proofs.Common.{◌≡◌, ◌∙◌, ℕ, ◌+◌, ◌<◌, ◌≤◌, ◌^◌, ◌&&◌, ◌||◌, not, Bool, true, false, if◌then◌else◌, List, [], ◌∷◌, ◌++◌, length, filter, slice_index_or, refl, ap, sym, subst, arith, append-nil}
+use Rattle.std.proofs.Common.{◌≡◌, ◌∙◌, ℕ, ◌+◌, ◌<◌, ◌≤◌, ◌^◌, ◌&&◌, ◌||◌, not, Bool, true, false, if◌then◌else◌, List, [], ◌∷◌, ◌++◌, length, filter, slice_index_or, refl, ap, sym, subst, arith}
 use Rattle.std.proofs.lemmas.Bool.{true≢false}
 use Rattle.smc_num.specs.declared.Side.{Side}
 use Rattle.smc_num.specs.declared.Side.TheVariants.{A, B}
-use Rattle.smc_num.specs.Names.{other}
 use Rattle.rmb_region.specs.Regions.{Buffer}
 use Rattle.pipe_model.specs.declared.setup.Setup.{Setup}
 use Rattle.pipe_model.specs.declared.entry.Entry.{Entry}
@@ -12,26 +11,24 @@ use Rattle.pipe_model.specs.declared.reply.Reply.{Reply}
 use Rattle.pipe_model.specs.declared.reply.Reply.TheVariants.{NameUsed, Declined, Opened}
 use Rattle.pipe_model.specs.declared.reply.Lack.TheVariants.{NotCapable}
 use Rattle.pipe_model.specs.declared.post.Post.{Post}
-use Rattle.pipe_model.specs.declared.post.Post.TheVariants.{Clc}
 use Rattle.pipe_model.specs.History.{next_number}
 use Rattle.pipe_model.specs.Ends.{Half}
-use Rattle.pipe_model.specs.Calls.{Plain}
-use Rattle.pipe_model.specs.Connections.{EndState, NoEnd, HasFallen, end_state}
+use Rattle.pipe_model.specs.Connections.{NoEnd, HasFallen, end_state}
 use Rattle.pipe_model.specs.Fallback.{is_raw, is_opened, written}
 use Rattle.pipe_model.specs.Posts.{proposal_post}
 use Rattle.pipe_model.specs.Replies.{open_told}
 use Rattle.pipe_model.specs.Lawful.{posted}
 use Rattle.conn_end.specs.Kept.{Kept}
-use Rattle.clc_handshake.specs.Stages.{Hand, first_state}
+use Rattle.clc_handshake.specs.Stages.{first_state}
 use Rattle.rc_link.specs.Wire.{Queues, room_of}
 use Rattle.side_core.specs.Desk.{Desk}
 use Rattle.side_core.specs.Landing.{falls_at, opens_at, opening_posts}
-use Rattle.side_core.specs.Manager.{Manager, StandsFor, state_at, with_hand}
+use Rattle.side_core.specs.Manager.{Manager, StandsFor, state_at}
 use Rattle.world_core.specs.declared.host.Host.{Host}
 use Rattle.world_core.specs.Played.{IsPlayed}
 use Rattle.world_core.specs.Landed.{buffer_of}
 use Rattle.world_core.specs.Sockets.{Socket, Unopened, Fallen, Proposed, Refused, FirstAccepted, FirstConfirmed, AwaitsLink, FirstUpAtA, FirstUp, Accepted, AcceptRefused, AcceptFallen, Confirmed, Up, HasSocket, HasWorld, opened_at, end_at}
-use Rattle.world_core.specs.Managers.{manager_of, each_socket}
+use Rattle.world_core.specs.Managers.{manager_of}
 use Rattle.world_core.specs.Sending.{carried_from, goes_on_wire, moved, puts_all, MaySendAll}
 use Rattle.world_core.specs.Handing.{has_end}
 use Rattle.world_core.specs.Steps.{entry_of}
@@ -49,8 +46,9 @@ use Rattle.world_core.proofs.Lendings.{lent-to-up}
 use Rattle.world_core.proofs.TakenMessages.{end-is}
 use Rattle.world_core.proofs.EndRecords.{state-is}
 use Rattle.world_core.proofs.HostsKept.{if-none}
-use Rattle.world_core.proofs.HostsOn.{PlaysBy, own-sent, own-kept, theirs-then, both-then, turned, stood}
-use Rattle.world_core.proofs.HandStubs.{Flowing, has-lendings, their-flows}
+use Rattle.world_core.proofs.HostsOn.{Flowing, PlaysBy, own-sent, own-kept, theirs-then, both-then, turned, stood}
+use Rattle.world_core.proofs.AllLendings.{has-lendings}
+use Rattle.world_core.proofs.StreamsAfter.{their-flows}
 
 -- a socket has an end at the client just where it was opened
 end-there : (k : Socket) → has_end (end_at k A) ≡ opened_at k
@@ -190,7 +188,7 @@ module _ (setup : Setup) (payload : List ℕ) (past : List Entry) (heard s : ℕ
       let own = before.own in
       let theirs = before.theirs in
       let nothing = λ (regions : List Buffer) (actor : ℕ). subst (λ (q : Entry). IsNothing setup payload regions q past) (same-entry actor NameUsed told-is)
-          (open-refused setup payload regions world.stage past world.world (lent-to-up setup payload world.stage past world.world (has-lendings setup set.one payload past heard before.played)) actor (heard + 0) (posted setup payload past heard (Open s)) s (plays actor NameUsed told-is, shakes actor NameUsed told-is)) in
+      (open-refused setup payload regions world.stage past world.world (lent-to-up setup payload world.stage past world.world (has-lendings setup set.one payload past heard before.played)) actor (heard + 0) (posted setup payload past heard (Open s)) s (plays actor NameUsed told-is, shakes actor NameUsed told-is)) in
       record {
         reply_is = sym told-is;
         posts_are = none ∙ sym (let q = nothing [] 0 in q.posts);
@@ -212,7 +210,7 @@ module _ (setup : Setup) (payload : List ℕ) (past : List Entry) (heard s : ℕ
       let own = before.own in
       let theirs = before.theirs in
       let set-so = λ (regions : List Buffer) (actor : ℕ). subst (λ (q : Entry). IsSet setup payload regions s (λ x. HasFallen) [] q past) (same-entry actor (Declined (NotCapable a-is b-is)) told-is)
-          (not-capable setup payload regions world.stage past world.world actor (heard + 0) s (NotCapable a-is b-is) (posted setup payload past heard (Open s)) (plays actor (Declined (NotCapable a-is b-is)) told-is) (shakes actor (Declined (NotCapable a-is b-is)) told-is)) in
+      (not-capable setup payload regions world.stage past world.world actor (heard + 0) s (NotCapable a-is b-is) (posted setup payload past heard (Open s)) (plays actor (Declined (NotCapable a-is b-is)) told-is) (shakes actor (Declined (NotCapable a-is b-is)) told-is)) in
       record {
         reply_is = sym told-is;
         posts_are = none ∙ sym (let q = set-so [] 0 in q.posts_are);
@@ -240,7 +238,7 @@ module _ (setup : Setup) (payload : List ℕ) (past : List Entry) (heard s : ℕ
   may-propose v posts is =
       let own = before.own in (
         subst (λ ps. MaySendAll (length client.flows.items) v ps) (sym is) ((subst (λ n. s < n) (sym own.sockets) known, tt), tt),
-        subst (λ ps. length (filter goes_on_wire ps) ≤ room_of client.wire) (sym is) (omega arith)
+        subst (λ ps. length (filter goes_on_wire ps) ≤ room_of client.wire) (sym is) (omega arith),
       )
 
   -- the handshake begins
@@ -253,7 +251,7 @@ module _ (setup : Setup) (payload : List ℕ) (past : List Entry) (heard s : ℕ
       let own = before.own in
       let theirs = before.theirs in
       let set-so = λ (regions : List Buffer) (actor : ℕ). subst (λ (q : Entry). IsSet setup payload regions s first_state (proposal_post setup s ∷ []) q past) (same-entry actor Opened told-is)
-          (opened setup payload regions world.stage past world.world actor (heard + 0) s (posted setup payload past heard (Open s)) (plays actor Opened told-is) (shakes actor Opened told-is)) in
+      (opened setup payload regions world.stage past world.world actor (heard + 0) s (posted setup payload past heard (Open s)) (plays actor Opened told-is) (shakes actor Opened told-is)) in
       let posts-so : posts ≡ posted setup payload past heard (Open s) = proposes posts posts-are ∙ sym (let q = set-so [] 0 in q.posts_are) in
       record {
         reply_is = sym told-is;
@@ -263,7 +261,7 @@ module _ (setup : Setup) (payload : List ℕ) (past : List Entry) (heard s : ℕ
             let of-b = set-so (buffer_of setup payload B past ∷ []) actor in
             both-then setup payload past heard (Open s) client server before few known lands-none unmoved-by silent-by actor g l
             (own-sent setup payload past heard (Open s) client server before few known lands-none unmoved-by silent-by actor g (subst (λ (m : Manager Half). StandsFor g.core m) (sym (of-a.both A)) (subst (λ w. StandsFor w (opens_at s false (manager_of setup payload (buffer_of setup payload A past ∷ []) A past))) (sym core) (opens _ own.side))) posts posts-so number n
-                (λ m st. wire m (subst (λ w. StandsFor w m) core st)) flows)
+            (λ m st. wire m (subst (λ w. StandsFor w m) core st)) flows)
             (server-then actor l (subst (λ (m : Manager Half). StandsFor l.core m) (sym (of-b.both B)) (opens-too _ theirs.side)) wire-too flows-too);
       }
 

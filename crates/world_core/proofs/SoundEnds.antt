@@ -13,7 +13,7 @@ use Rattle.rmb_region.specs.Regions.{Buffer}
 use Rattle.pipe_model.specs.declared.setup.Setup.{Setup}
 use Rattle.pipe_model.specs.declared.entry.Entry.{Entry}
 use Rattle.pipe_model.specs.Words.{element_size}
-use Rattle.pipe_model.specs.Fabric.{peer, fabric, table_of}
+use Rattle.pipe_model.specs.Fabric.{peer, table_of}
 use Rattle.pipe_model.specs.Ends.{Half}
 use Rattle.pipe_model.specs.Pipe.{Item, Up, Pipe, Terms, half}
 use Rattle.pipe_model.specs.Parts.{IsCounted}
@@ -30,7 +30,7 @@ use Rattle.world_core.specs.Played.{IsOneLink, IsPlayed}
 use Rattle.world_core.specs.Agreement.{IsShaken, GoesOn}
 use Rattle.world_core.specs.Hosts.{IsWorldSet}
 use Rattle.world_core.specs.Managers.{manager_of, records_of, conn_of, end_of, route_of, lending_on, each_socket}
-use Rattle.world_core.proofs.SmallEnds.{IsWithin, small}
+use Rattle.world_core.proofs.SmallEnds.{small}
 use Rattle.world_core.proofs.Parts.{part-open}
 use Rattle.world_core.proofs.EntryItems.{items-are, below, below-is}
 use Rattle.world_core.proofs.Senders.{DeedsAre, Nothing, Landing, Calling, Completing, deeds-are}
@@ -95,7 +95,7 @@ module _ (setup : Setup) (one : IsOneLink setup) (payload : List ℕ) where
   few-below group s e past n p g =
       let l : length (below group s e past) ≡ length (reverse (ups A s e past ++ ups B s e past) ++ reverse (fates A group e past ++ fates B group e past)) = ap (λ (is : List Item). length is) (below-is group s e past g) in
       let a : length (reverse (ups A s e past ++ ups B s e past) ++ reverse (fates A group e past ++ fates B group e past)) ≡ length (reverse (ups A s e past ++ ups B s e past)) + length (reverse (fates A group e past ++ fates B group e past))
-          = length-append (reverse (ups A s e past ++ ups B s e past)) (reverse (fates A group e past ++ fates B group e past)) in
+      = length-append (reverse (ups A s e past ++ ups B s e past)) (reverse (fates A group e past ++ fates B group e past)) in
       let u = two-lists (ups A s e past) (ups B s e past) (few-ups (Up A) (comes_up A s e past)) (few-ups (Up B) (comes_up B s e past)) in
       let f = two-lists (fates A group e past) (fates B group e past) (few-fates A group e past n p) (few-fates B group e past n p) in
       omega (arith, l, a, u, f)

@@ -1,5 +1,4 @@
 -- In a played history a side that takes a CLC message does what its manager makes of it; one that finds none does nothing.
-use Rattle.pipe_model.specs.Parts.{actor}
 use Rattle.pipe_model.specs.declared.entry.Entry.{Entry}
 use Rattle.pipe_model.specs.declared.setup.Setup.{Setup}
 use Rattle.rmb_region.specs.Regions.{Buffer}
@@ -13,7 +12,7 @@ use Rattle.world_core.proofs.TakenAlone.{paths_of}
 use Rattle.world_core.specs.OneLink.{Stage}
 use Rattle.world_core.specs.Played.{IsOneLink, IsPlayed}
 use Rattle.world_core.specs.Sockets.{untaken_at}
-use Rattle.world_core.specs.Sockets.{IsWorld, HasSocket, end_at}
+use Rattle.world_core.specs.Sockets.{HasSocket, end_at}
 use Rattle.pipe_model.specs.declared.event.Event.{Event}
 use Rattle.pipe_model.specs.declared.event.Event.TheVariants.{Clc}
 use Rattle.pipe_model.specs.Connections.{end_state}
@@ -22,7 +21,7 @@ use Rattle.pipe_model.specs.Replies.{expects}
 use Rattle.world_core.proofs.PlayedWorlds.{played as has-world}
 use Rattle.world_core.proofs.TakenMessages.{end-is}
 use Rattle.clc_wire.specs.declared.message.ClcMessage.{ClcMessage}
-use Rattle.world_core.proofs.ClcTaken.{IsTaken, IsTakenSo, IsIdle, IsIdleSo, link_of, clc-taken, clc-idles}
+use Rattle.world_core.proofs.ClcTaken.{IsTaken, IsTakenSo, IsIdle, link_of, clc-taken, clc-idles}
 
 -- the one path is up
 pub paths-up : (setup : Setup) (one : IsOneLink setup) (payload : List ℕ) (past : List Entry) (n : ℕ) → IsPlayed setup payload past n → paths_of past ≡ true ∷ []
@@ -30,7 +29,7 @@ paths-up setup one payload past n p = let v = has-world setup one payload past n
 
 module _ (setup : Setup) (one : IsOneLink setup) (payload : List ℕ) (regions : List Buffer) (past : List Entry) (n s : ℕ) (dir : Side) where
   -- a message is taken, or held
-  taken-by-entry : (e : Entry) → e.event ≡ Clc s dir → IsPlayed setup payload (e ∷ past) n → expects (end_state (other dir) s past) ≡ true → (m : ClcMessage) → head (untaken dir s past) ≡ Some m
+  pub taken-by-entry : (e : Entry) → e.event ≡ Clc s dir → IsPlayed setup payload (e ∷ past) n → expects (end_state (other dir) s past) ≡ true → (m : ClcMessage) → head (untaken dir s past) ≡ Some m
       → IsTakenSo setup payload regions (other dir) s m (link_of dir s past) (entry-of e.actor (Clc s dir) e.reply e.posts) past
   taken-by-entry e is p waits m first =
       let v = has-world setup one payload past p.0 p.3 in

@@ -1,14 +1,12 @@
 -- What the taking of a CLC message makes of both hosts: nothing where none is due or it is held; else the taker has sent what its manager
 -- posts, and the message has left the stream of its sender.
-use Rattle.std.proofs.Common.{◌≡◌, ◌∙◌, ℕ, ◌+◌, ◌<◌, ◌≤◌, ◌^◌, ◌&&◌, ◌==◌, not, Bool, true, false, if◌then◌else◌, List, [], ◌∷◌, ◌++◌, length, filter, slice_index_or, refl, ap, sym, subst, arith, inl, inr}
-use Rattle.std.specs.Prelude.{Option, Some, None, ◌⊎◌, option_map, unwrap_or, slice_set, IfSome}
-use Rattle.std.proofs.lemmas.Bool.{true≢false}
+use Rattle.std.proofs.Common.{◌≡◌, ◌∙◌, ℕ, ◌+◌, ◌<◌, ◌≤◌, ◌^◌, ◌&&◌, ◌==◌, not, Bool, true, false, if◌then◌else◌, List, [], ◌∷◌, ◌++◌, length, filter, refl, ap, sym, subst, arith, inl, inr}
+use Rattle.std.specs.Prelude.{Option, Some, None, ◌⊎◌, option_map, unwrap_or, IfSome}
 use Rattle.std.proofs.lemmas.List.{length-set}
 use Rattle.smc_num.specs.declared.Side.{Side}
 use Rattle.smc_num.specs.declared.Side.TheVariants.{A, B}
 use Rattle.smc_num.specs.declared.LinkId.{LinkId}
 use Rattle.smc_num.specs.Names.{other, same_side, no_link, head}
-use Rattle.clc_wire.specs.declared.offer.Offer.{Offer}
 use Rattle.clc_wire.specs.declared.message.ClcMessage.{ClcMessage}
 use Rattle.clc_wire.specs.declared.message.ClcMessage.TheVariants.{Proposal as ProposalMessage, Accept as AcceptMessage, Confirm as ConfirmMessage, Decline as DeclineMessage}
 use Rattle.rmb_region.specs.Regions.{Buffer}
@@ -23,20 +21,18 @@ use Rattle.pipe_model.specs.declared.verdict.ClcStep.{ClcStep}
 use Rattle.pipe_model.specs.declared.verdict.ClcStep.TheVariants.{SendAccept, SendConfirm, AskKey, Wait, Decline, Fell, Ready, Lost, Wrong}
 use Rattle.pipe_model.specs.declared.verdict.Lacks.{Lacks}
 use Rattle.pipe_model.specs.declared.post.Post.{Post}
-use Rattle.pipe_model.specs.History.{Offered, offered, next_number}
+use Rattle.pipe_model.specs.History.{offered, next_number}
 use Rattle.pipe_model.specs.Ends.{Half}
-use Rattle.pipe_model.specs.Calls.{Plain}
 use Rattle.pipe_model.specs.Connections.{EndState, NoEnd, WaitsProposal, WaitsAnswer, WaitsConfirm, WaitsLink, IsUp, HasFallen, WasReset, end_state}
-use Rattle.pipe_model.specs.Handshake.{verdict}
-use Rattle.pipe_model.specs.Fallback.{untaken, written, takes_clc, read_out, takes_message as takes_it}
+use Rattle.pipe_model.specs.Fallback.{untaken, written, takes_message as takes_it}
 use Rattle.pipe_model.specs.Replies.{expects, step_told, told}
 use Rattle.pipe_model.specs.Lawful.{reply_of, posted}
 use Rattle.conn_end.specs.Kept.{Kept}
-use Rattle.clc_handshake.specs.Stages.{Hand, seen_state, named_group}
+use Rattle.clc_handshake.specs.Stages.{seen_state, named_group}
 use Rattle.rc_link.specs.Wire.{Queues, room_of}
-use Rattle.side_core.specs.Desk.{Desk, lacks_of, makes_link}
+use Rattle.side_core.specs.Desk.{Desk, lacks_of}
 use Rattle.side_core.specs.Landing.{is_wait, CanMake}
-use Rattle.side_core.specs.Manager.{Manager, StandsFor, hand_at, state_at, no_hand}
+use Rattle.side_core.specs.Manager.{Manager, StandsFor, hand_at, state_at}
 use Rattle.side_core.specs.Acting.{IsSoundAt}
 use Rattle.side_core.specs.Records.{conn_at}
 use Rattle.side_core.specs.Taking.{MayTake, verdict_at, taking_told, taking_posts, takes_message, with_desk}
@@ -44,26 +40,25 @@ use Rattle.side_core.proofs.Verdicts.{Tells, told as tells}
 use Rattle.world_core.specs.declared.host.Host.{Host}
 use Rattle.world_core.specs.declared.host.Untaken.{Untaken}
 use Rattle.world_core.specs.declared.host.Outflow.{Outflow}
-use Rattle.world_core.specs.Played.{IsPlayed, IsMade, handed}
+use Rattle.world_core.specs.Played.{IsPlayed, IsMade}
 use Rattle.world_core.specs.Landed.{buffer_of}
 use Rattle.world_core.specs.OneLink.{the_link}
-use Rattle.world_core.specs.Agreement.{HasOffers}
-use Rattle.world_core.specs.Sockets.{Socket, Unopened, Fallen, Proposed, Refused, FirstAccepted, FirstConfirmed, AwaitsLink, FirstUpAtA, FirstUp, Accepted, AcceptRefused, AcceptFallen, Confirmed, Up, HasSocket, HasWorld, offered_at, untaken_at, on_link}
 use Rattle.world_core.specs.Managers.{manager_of}
 use Rattle.world_core.specs.WireSteps.{landing_now}
 use Rattle.world_core.specs.Sending.{carried_from, goes_on_wire, moved, outflow_at, puts_all, takes_next, MaySendAll}
 use Rattle.world_core.specs.Handing.{due_of, due_on, hands_over, link_made_by, makes_at, MayMake}
 use Rattle.world_core.specs.Steps.{entry_of, does_something}
 use Rattle.world_core.specs.Hosts.{AreHostsAfter, IsHostAfter, IsNext, IsStreamAfter, with_posts}
-use Rattle.world_core.proofs.QuietEvents.{entry-of, by-side}
-use Rattle.world_core.proofs.PlayedWorlds.{played}
-use Rattle.world_core.proofs.Handshaken.{has-offers}
+use Rattle.world_core.proofs.QuietEvents.{entry-of}
 use Rattle.world_core.proofs.SoundEnds.{sound-at}
 use Rattle.world_core.proofs.EndRecords.{state-is}
 use Rattle.world_core.proofs.HostsKept.{if-none}
 use Rattle.world_core.proofs.TakenAlone.{paths_of}
-use Rattle.world_core.proofs.HostsOn.{PlaysBy, own-sent, own-kept, theirs-then, both-then, may-go, twice, stood}
-use Rattle.world_core.proofs.HandStubs.{Flowing, their-flows, their-taken, link_with, link_of, IsTaken, paths-up, taken, idle, held, may-take, can-make}
+use Rattle.world_core.proofs.HostsOn.{Flowing, PlaysBy, own-sent, own-kept, theirs-then, both-then, may-go, twice, stood}
+use Rattle.world_core.proofs.StreamsAfter.{their-flows, their-taken}
+use Rattle.world_core.proofs.ClcTaken.{IsTaken, link_with, link_of, held}
+use Rattle.world_core.proofs.TakenMessagesAll.{paths-up, taken, idle}
+use Rattle.world_core.proofs.MayTakes.{MayMake as MayMakeAt, may-take, can-make, told-kept, would-take, would-idle}
 
 -- what an end is to take, by its state
 pub due-some : (st : EndState) (f : Outflow) (u : Untaken) → due_of (seen_state st) f ≡ Some u → (expects st ≡ true) × (f.next ≡ Some u)
@@ -126,79 +121,10 @@ step-takes g (ConfirmMessage o) state l Ready t a w = by o.first
     by true = refl
     by false = refl
 
--- a verdict does something unless it is to wait
-step-does : (g : ℕ) (m : ClcMessage) (state : EndState) (l : Lacks) (step : ClcStep) → Tells step state m l → not (is_wait step) ≡ does_something (Plain (step_told g m step))
-step-does g m state l (SendAccept first) t = refl
-step-does g m state l (SendConfirm true) t = refl
-step-does g m state l (SendConfirm false) t = refl
-step-does g m state l AskKey t = refl
-step-does g m state l (Wait h) t = refl
-step-does g m state l (Decline lack) t = refl
-step-does g m state l Fell t = refl
-step-does g m state l Lost t = refl
-step-does g m state l (Wrong kind) t = refl
-step-does g (ProposalMessage p) state l Ready t = absurd t
-step-does g (AcceptMessage o) state l Ready t = absurd t
-step-does g (DeclineMessage r) state l Ready t = absurd t
-step-does g (ConfirmMessage o) state l Ready t = by o.first
-  where
-    by : (b : Bool) → true ≡ does_something (Plain (if b then Sent LinkSent else Established))
-    by true = refl
-    by false = refl
-
--- a Confirm of first contact answers an Accept
-step-answers : (g : ℕ) (m : ClcMessage) (state : EndState) (l : Lacks) (step : ClcStep) → Tells step state m l → step_told g m step ≡ Sent ConfirmSent → (o : Offer) × (m ≡ AcceptMessage o)
-step-answers g (AcceptMessage o) state l (SendConfirm true) t e = (o, refl)
-step-answers g (ProposalMessage p) state l (SendConfirm true) t e = absurd t
-step-answers g (ConfirmMessage o) state l (SendConfirm true) t e = absurd t
-step-answers g (DeclineMessage r) state l (SendConfirm true) t e = absurd t
-step-answers g m state l (SendConfirm false) t e = cc
-step-answers g m state l (SendAccept first) t e = cc
-step-answers g m state l AskKey t e = cc
-step-answers g m state l (Wait h) t e = cc
-step-answers g m state l (Decline lack) t e = cc
-step-answers g m state l Fell t e = cc
-step-answers g m state l Lost t e = cc
-step-answers g m state l (Wrong kind) t e = cc
-step-answers g (ProposalMessage p) state l Ready t e = absurd t
-step-answers g (AcceptMessage o) state l Ready t e = absurd t
-step-answers g (DeclineMessage r) state l Ready t e = absurd t
-step-answers g (ConfirmMessage o) state l Ready t e = by o.first e
-  where
-    by : (b : Bool) → (if b then Sent LinkSent else Established) ≡ Sent ConfirmSent → (q : Offer) × (ConfirmMessage o ≡ AcceptMessage q)
-    by true e = cc
-    by false e = cc
-
--- who has sent an Accept that was not taken has offered
-accept-offers : (setup : Setup) (k : Socket) (x : Side) (o : Offer) → head (untaken_at setup k x) ≡ Some (AcceptMessage o) → (q : Offer) × (offered_at k x ≡ on_link q)
-accept-offers setup (FirstAccepted p) B o e = (p, refl)
-accept-offers setup (Accepted p) B o e = (p, refl)
-accept-offers setup (FirstConfirmed p q) A o e = (q, refl)
-accept-offers setup (Confirmed p q) A o e = (q, refl)
-accept-offers setup Proposed A o e = cc
-accept-offers setup (Refused r) B o e = cc
-accept-offers setup (AcceptRefused p r) A o e = cc
-accept-offers setup Unopened A o e = cc
-accept-offers setup Unopened B o e = cc
-accept-offers setup Fallen A o e = cc
-accept-offers setup Fallen B o e = cc
-accept-offers setup Proposed B o e = cc
-accept-offers setup (Refused r) A o e = cc
-accept-offers setup (FirstAccepted p) A o e = cc
-accept-offers setup (FirstConfirmed p q) B o e = cc
-accept-offers setup (AwaitsLink p q) A o e = cc
-accept-offers setup (AwaitsLink p q) B o e = cc
-accept-offers setup (FirstUpAtA p q) A o e = cc
-accept-offers setup (FirstUpAtA p q) B o e = cc
-accept-offers setup (FirstUp p q) A o e = cc
-accept-offers setup (FirstUp p q) B o e = cc
-accept-offers setup (Accepted p) A o e = cc
-accept-offers setup (AcceptRefused p r) B o e = cc
-accept-offers setup (AcceptFallen p) A o e = cc
-accept-offers setup (AcceptFallen p) B o e = cc
-accept-offers setup (Confirmed p q) B o e = cc
-accept-offers setup (Up p q) A o e = cc
-accept-offers setup (Up p q) B o e = cc
+-- a link that is named is the only one
+named : (o : Option LinkId) → unwrap_or o no_link ≡ the_link → o ≡ Some the_link
+named None e = let zero-one : 0 ≡ 1 = ap (λ (l : LinkId). l.group) e in absurd (omega (arith, zero-one))
+named (Some l) e = ap Some e
 
 -- the link is made at the peer just where its manager has it
 made-alike : (r : Reply) (link : Option LinkId) (m : Manager Half) → (r ≡ Sent ConfirmSent → link ≡ Some the_link) → with_desk (makes_at (link_made_by r link)) m ≡ link_with r m
@@ -212,13 +138,6 @@ may-make _ link d is = tt
 no-and : (b : Bool) → (b && false) ≡ false
 no-and true = refl
 no-and false = refl
-
--- the verdict is that of the plain manager
-same-verdict : (s : ℕ) (m : ClcMessage) (paths : List Bool) (v : Manager Kept) (k : Manager Half) → StandsFor v k → verdict_at s m paths v ≡ verdict_at s m paths k
-same-verdict s m paths v k st =
-    let w = st.works in
-    ap (λ (hs : List Hand). verdict (slice_index_or hs s no_hand).raw (slice_index_or hs s no_hand).state m (lacks_of paths v.desk)) st.hands
-    ∙ ap (λ (d : Desk). verdict (hand_at s k).raw (state_at s k) m (lacks_of paths d)) w.desk
 
 module _ (setup : Setup) (payload : List ℕ) (past : List Entry) (heard s : ℕ) (dir : Side) (own theirs : Host) (before : AreHostsAfter setup payload past heard (other dir) own theirs) (known : s < setup.sockets) where
   pub own-is : state_at s own.core ≡ end_state (other dir) s past
@@ -267,14 +186,11 @@ module _ (setup : Setup) (payload : List ℕ) (past : List Entry) (heard s : ℕ
   plays : (actor : ℕ) → IsPlayed setup payload (entry_of setup payload past heard actor (Clc s dir) ∷ past) (heard + 0)
   plays actor = (heard, made-now actor, refl, before.played)
 
-  Given : List Buffer → ℕ → Untaken → Type 0
-  Given regions actor u = IsTaken setup payload regions (other dir) s u.message (link_of dir s past) (entry_of setup payload past heard actor (Clc s dir)) past
-
   given-by : (regions : List Buffer) (actor : ℕ) (u : Untaken) → due_on s own.core theirs.flows.items ≡ Some u → IsTaken setup payload regions (other dir) s u.message (link_of dir s past) (entry_of setup payload past heard actor (Clc s dir)) past
   given-by regions actor u e =
       let set = before.set in
       let d = is-due u e in
-      taken setup set.one payload regions (entry_of setup payload past heard actor (Clc s dir)) past (heard + 0) (plays actor) s dir refl d.waits u.message d.first
+      taken setup set.one payload regions past (heard + 0) s dir (entry_of setup payload past heard actor (Clc s dir)) refl (plays actor) d.waits u.message d.first
 
   up-now : paths_of past ≡ true ∷ []
   up-now = let set = before.set in paths-up setup set.one payload past heard before.played
@@ -291,7 +207,7 @@ module _ (setup : Setup) (payload : List ℕ) (past : List Entry) (heard s : ℕ
   -- the reply is what the manager is told
   told-alike : (m : ClcMessage) → taking_told s m (true ∷ []) own.core ≡ taking_told s m (paths_of past) own-manager
   told-alike m =
-      ap (λ st. step_told (named_group m) m st) (same-verdict s m (true ∷ []) own.core own-manager own-stands)
+      told-kept s m (true ∷ []) own.core own-manager own-stands
       ∙ ap (λ paths. taking_told s m paths own-manager) (sym up-now)
 
   reply-now : (u : Untaken) → due_on s own.core theirs.flows.items ≡ Some u → taking_told s u.message (true ∷ []) own.core ≡ reply_of heard (told setup payload past (Clc s dir))
@@ -300,15 +216,13 @@ module _ (setup : Setup) (payload : List ℕ) (past : List Entry) (heard s : ℕ
   -- whether it would be taken
   pub would-now : (u : Untaken) → due_on s own.core theirs.flows.items ≡ Some u → not (is_wait (verdict_at s u.message (true ∷ []) own.core)) ≡ does_something (told setup payload past (Clc s dir))
   would-now u e =
-      step-does (named_group u.message) u.message (state_at s own.core) (lacks_of (true ∷ []) own.core.desk) (verdict_at s u.message (true ∷ []) own.core)
-        (tells (hand_at s own.core).raw (state_at s own.core) u.message (lacks_of (true ∷ []) own.core.desk))
-      ∙ ap (λ r. does_something (Plain r)) (reply-now u e)
+      let set = before.set in
+      let d = is-due u e in
+      ap (λ paths. not (is_wait (verdict_at s u.message paths own.core))) (sym up-now)
+      ∙ sym (would-take setup set.one payload own-regions past heard before.played s known dir d.waits u.message d.first own.core own-stands)
 
   pub would-not : due_on s own.core theirs.flows.items ≡ None → false ≡ does_something (told setup payload past (Clc s dir))
-  would-not e =
-      let set = before.set in
-      let t = idle setup set.one payload own-regions (entry_of setup payload past heard 0 (Clc s dir)) past (heard + 0) (plays 0) s dir refl (none-due e) in
-      ap (λ r. does_something (Plain r)) (sym t.0)
+  would-not e = let set = before.set in sym (would-idle setup set.one payload own-regions past heard before.played s known dir (none-due e))
 
   link-alike : (u : Untaken) → due_on s own.core theirs.flows.items ≡ Some u → unwrap_or u.link no_link ≡ link_of dir s past
   link-alike u e = let d = is-due u e in ap (λ (o : Option LinkId). unwrap_or o no_link) d.link
@@ -319,7 +233,7 @@ module _ (setup : Setup) (payload : List ℕ) (past : List Entry) (heard s : ℕ
       let set = before.set in
       let d = is-due u e in
       subst (λ (l : LinkId). MayTake s u.message l (true ∷ []) own.core) (sym (link-alike u e)) (subst (λ paths. MayTake s u.message (link_of dir s past) paths own.core) up-now
-        (may-take setup set.one payload own-regions past heard before.played few s dir known own.core own-stands d.waits u.message d.first))
+      (may-take setup payload set past heard before.played few own-regions dir own.core own-stands s known d.waits u.message d.first))
 
   pub sound-now : length past ≤ 2 ^ 18 → IsSoundAt own.core.records.terms.size (conn_at s own.core.records)
   sound-now few = sound-at setup payload before.set past heard before.played few (other dir) own-regions own.core own-stands s
@@ -361,16 +275,16 @@ module _ (setup : Setup) (payload : List ℕ) (past : List Entry) (heard s : ℕ
     nothing-due e posts none =
         let set = before.set in
         let h = before.own in
-        let so = λ (regions : List Buffer) (actor : ℕ). idle setup set.one payload regions (entry_of setup payload past heard actor (Clc s dir)) past (heard + 0) (plays actor) s dir refl (none-due e) in
+        let so = λ (regions : List Buffer) (actor : ℕ). idle setup set.one payload regions past (heard + 0) s dir (entry_of setup payload past heard actor (Clc s dir)) refl (plays actor) (none-due e) in
         record {
-          reply_is = let t = so [] 0 in sym t.0;
-          posts_are = let t = so [] 0 in none ∙ sym t.1;
+          reply_is = let t = so [] 0 in sym t.reply;
+          posts_are = let t = so [] 0 in none ∙ sym t.posts;
           after = λ actor.
               let of-own = so own-regions actor in
               let of-theirs = so (buffer_of setup payload (other (other dir)) past ∷ []) actor in
               both-then setup payload past heard (Clc s dir) own theirs before few known lands-none unmoved-by silent-by actor own theirs
-              (own-kept setup payload past heard (Clc s dir) own theirs before few known lands-none unmoved-by silent-by actor own (subst (λ (m : Manager Half). StandsFor own.core m) (sym (of-own.2 (other dir))) h.side) of-own.1 refl refl)
-              (theirs-kept actor (ap (λ r. takes_it r) of-own.0) (of-theirs.2 (other (other dir))));
+              (own-kept setup payload past heard (Clc s dir) own theirs before few known lands-none unmoved-by silent-by actor own (subst (λ (m : Manager Half). StandsFor own.core m) (sym (of-own.both (other dir))) h.side) of-own.posts refl refl)
+              (theirs-kept actor (ap (λ r. takes_it r) of-own.reply) (of-theirs.both (other (other dir))));
         }
 
     -- a message is due, and the manager has taken it
@@ -407,8 +321,8 @@ module _ (setup : Setup) (payload : List ℕ) (past : List Entry) (heard s : ℕ
       pub held-now : (hold : Hold) → r ≡ Held hold → (g : Host) → g.core ≡ v → g.wire ≡ own.wire → g.flows.items ≡ own.flows.items → PlaysBy setup payload past heard (Clc s dir) r posts (other dir) g theirs
       held-now hold is g core wire flows =
           let waits : is_wait (verdict_at s u.message (paths_of past) own-manager) ≡ true =
-              held-waits (named_group u.message) u.message (verdict_at s u.message (paths_of past) own-manager) hold (sym (told-alike u.message) ∙ (sym reply_is ∙ is)) in
-          let h = held s u.message (link_of dir s past) (paths_of past) own-manager waits (stood-there own-stands) in
+          held-waits (named_group u.message) u.message (verdict_at s u.message (paths_of past) own-manager) hold (sym (told-alike u.message) ∙ (sym reply_is ∙ is)) in
+          let h = held s u.message (link_of dir s past) (paths_of past) own-manager waits in
           let none-posted : posted setup payload past heard (Clc s dir) ≡ [] = let t = given-by own-regions 0 u due in t.posts ∙ h.1 in
           record {
             reply_is = reply-so;
@@ -418,37 +332,54 @@ module _ (setup : Setup) (payload : List ℕ) (past : List Entry) (heard s : ℕ
                 (own-kept setup payload past heard (Clc s dir) own theirs before few known lands-none unmoved-by silent-by actor g (subst (λ w. StandsFor w (manager_of setup payload (buffer_of setup payload (other dir) past ∷ []) (other dir) (entry_of setup payload past heard actor (Clc s dir) ∷ past))) (sym core) (stands-so actor)) none-posted wire flows)
                 (theirs-kept actor (ap (λ q. takes_it q) (sym reply-so ∙ is)) (theirs-so actor ∙ ap (λ q. link_with q (manager_of setup payload (buffer_of setup payload (other (other dir)) past ∷ []) (other (other dir)) past)) is));
           }
-        where
-          stood-there : StandsFor own.core (manager_of setup payload (buffer_of setup payload (other dir) past ∷ []) (other dir) past) → s < length own-manager.hands
-          stood-there st = subst (λ (hs : List Hand). s < length hs) st.hands socket-at-own
 
-      answered : r ≡ Sent ConfirmSent → (o : Offer) × (u.message ≡ AcceptMessage o)
-      answered is =
-          step-answers (named_group u.message) u.message (state_at s own.core) (lacks_of (true ∷ []) own.core.desk) (verdict_at s u.message (true ∷ []) own.core)
-            (tells (hand_at s own.core).raw (state_at s own.core) u.message (lacks_of (true ∷ []) own.core.desk)) (sym reply_is ∙ is)
+      -- where it confirms first contact, the message is about the link, which may be made at its sender
+      made-at : r ≡ Sent ConfirmSent → MayMakeAt dir s past theirs.core.desk
+      made-at is =
+          let set = before.set in
+          let d = is-due u due in
+          let h = before.theirs in
+          can-make setup set.one payload (buffer_of setup payload (other (other dir)) past ∷ []) past (heard + 0) s dir (entry_of setup payload past heard 0 (Clc s dir)) refl (plays 0) d.waits u.message d.first (sym reply-so ∙ is) theirs.core h.side
 
       link-there : r ≡ Sent ConfirmSent → u.link ≡ Some the_link
-      link-there is =
-          let set = before.set in
-          let a = answered is in
-          let d = is-due u due in
-          let world : HasWorld setup past = played setup set.one payload past heard before.played in
-          let w = world.world in
-          let place : HasSocket setup world.stage s past = w.sockets s in
-          let st = place.stands in
-          let q = accept-offers setup place.at dir a.0 (sym (ap (λ ms. head ms) (st.messages dir)) ∙ (d.first ∙ ap Some a.1)) in
-          d.link ∙ ap (λ (o : Option Offered). option_map (λ o. o.link) o) (st.offer dir ∙ q.1)
+      link-there is = let q = made-at is in named u.link (link-alike u due ∙ q.link)
 
       -- what its sender must see to
       pub may-make-now : MayMake (link_made_by r u.link) theirs.core.desk
-      may-make-now =
+      may-make-now = may-make r u.link theirs.core.desk (λ is. let q = made-at is in (link-there is, q.can))
+
+      taken-so : ((hold : Hold) → r ≡ Held hold → ⊥) → (verdict_at s u.message (true ∷ []) own.core ≡ AskKey → ⊥) → takes_it (reply_of heard (told setup payload past (Clc s dir))) ≡ true
+      taken-so not_held not_asked =
+          ap (λ q. takes_it q) (sym reply-so ∙ reply_is)
+          ∙ step-takes (named_group u.message) u.message (state_at s own.core) (lacks_of (true ∷ []) own.core.desk) (verdict_at s u.message (true ∷ []) own.core)
+          (tells (hand_at s own.core).raw (state_at s own.core) u.message (lacks_of (true ∷ []) own.core.desk)) not_asked (λ hold e. not_held hold (reply_is ∙ e))
+
+      over-flows : (actor : ℕ) → takes_it (reply_of heard (told setup payload past (Clc s dir))) ≡ true
+          → Flowing payload setup.sockets (other (other dir)) (entry_of setup payload past heard actor (Clc s dir) ∷ past) (hands_over s u.message theirs.flows.items)
+      over-flows actor takes =
           let set = before.set in
           let d = is-due u due in
           let h = theirs-before in
-          may-make r u.link theirs.core.desk (λ is. (link-there is,
-            can-make setup set.one payload (buffer_of setup payload dir past ∷ []) past heard before.played s dir known d.waits u.message d.first theirs.core h.side
-              (sym (ap (λ st. step_told (named_group u.message) u.message st) (same-verdict s u.message (paths_of past) own.core (manager_of setup payload (buffer_of setup payload dir past ∷ []) (other dir) past) (regions-else own-stands)))
-              ∙ (ap (λ paths. taking_told s u.message paths own.core) up-now ∙ (sym reply_is ∙ is)))))
-        where
-          regions-else : StandsFor own.core (manager_of setup payload (buffer_of setup payload (other dir) past ∷ []) (other dir) past) → StandsFor (record own.core { regions = buffer_of setup payload dir past ∷ [] }) (manager_of setup payload (buffer_of setup payload dir past ∷ []) (other dir) past)
-          regions-else st = record { works = st.works; hands = st.hands; regions = refl }
+          subst (λ x. Flowing payload setup.sockets x (entry_of setup payload past heard actor (Clc s dir) ∷ past) (hands_over s u.message theirs.flows.items)) (sym (twice dir))
+          (their-taken setup set.one payload (entry_of setup payload past heard actor (Clc s dir)) past (heard + 0) (plays actor) dir s u.message refl takes d.first theirs.flows.items h.sockets h.flows)
+
+      -- it is taken
+      pub taken-now : ((hold : Hold) → r ≡ Held hold → ⊥) → (verdict_at s u.message (true ∷ []) own.core ≡ AskKey → ⊥) → (number : ℕ) → number ≡ next_number past → (g l : Host) → g.core ≡ v
+          → ((m : Manager Half) → StandsFor v m → g.wire ≡ with_posts (carried_from m number 1 posts) own.wire) → g.flows.items ≡ puts_all posts own.flows.items
+          → ((m : Manager Half) → StandsFor theirs.core m → StandsFor l.core (with_desk (makes_at (link_made_by r u.link)) m)) → l.wire ≡ theirs.wire → l.flows.items ≡ hands_over s u.message theirs.flows.items
+          → PlaysBy setup payload past heard (Clc s dir) r posts (other dir) g l
+      taken-now not_held not_asked number n g l core wire flows side_too wire_too flows_too =
+          let takes = taken-so not_held not_asked in
+          let h = before.theirs in
+          record {
+            reply_is = reply-so;
+            posts_are = posts-so;
+            after = λ actor.
+                both-then setup payload past heard (Clc s dir) own theirs before few known lands-none unmoved-by silent-by actor g l
+                (own-sent setup payload past heard (Clc s dir) own theirs before few known lands-none unmoved-by silent-by actor g (subst (λ w. StandsFor w (manager_of setup payload (buffer_of setup payload (other dir) past ∷ []) (other dir) (entry_of setup payload past heard actor (Clc s dir) ∷ past))) (sym core) (stands-so actor)) posts posts-so number n
+                (λ m st. wire m (subst (λ w. StandsFor w m) core st)) flows)
+                (theirs-then setup payload past heard (Clc s dir) own theirs before few known lands-none unmoved-by silent-by actor l
+                (subst (λ (m : Manager Half). StandsFor l.core m) (made-alike r u.link (manager_of setup payload (buffer_of setup payload (other (other dir)) past ∷ []) (other (other dir)) past) link-there ∙ sym (theirs-so actor)) (side_too _ h.side))
+                wire_too (ap length flows_too ∙ (length-set theirs.flows.items s (takes_next u.message (outflow_at s theirs.flows.items)) ∙ h.sockets))
+                (subst (λ fs. Flowing payload setup.sockets (other (other dir)) (entry_of setup payload past heard actor (Clc s dir) ∷ past) fs) (sym flows_too) (over-flows actor takes)));
+          }

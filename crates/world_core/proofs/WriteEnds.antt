@@ -1,17 +1,17 @@
 -- A write at the front of a wire: its sender has its bytes, which stand in the one RMB of its receiver as it lands.
-use Rattle.std.proofs.Common.{◌≡◌, ◌∙◌, ◌==◌, ◌&&◌, ◌⊎◌, inl, inr, ℕ, ◌+◌, ◌-◌, ◌%◌, ◌<◌, ◌≤◌, ◌^◌, Bool, true, false, if◌then◌else◌, List, [], ◌∷◌, ◌++◌, length, take, drop, map, find, filter_map, zero, suc, refl, ap, sym, subst, true≢false, arith, eqb-true, eq-eqb, length-append}
-use Rattle.std.specs.Prelude.{Option, Some, None, is_some, option_map, option_and_then, unwrap_or, slice_index_or}
+use Rattle.std.proofs.Common.{◌≡◌, ◌∙◌, ◌==◌, ◌&&◌, ◌⊎◌, inl, inr, ℕ, ◌+◌, ◌%◌, ◌≤◌, Bool, true, false, if◌then◌else◌, List, [], ◌∷◌, ◌++◌, length, take, drop, map, filter_map, zero, suc, refl, ap, sym, subst, true≢false, arith, eq-eqb, length-append}
+use Rattle.std.specs.Prelude.{Option, Some, is_some, option_map, option_and_then, unwrap_or}
 use Rattle.std.specs.List.{cons_option}
 use Rattle.smc_num.specs.declared.Side.{Side}
 use Rattle.smc_num.specs.declared.Side.TheVariants.{A, B}
 use Rattle.smc_num.specs.declared.LinkId.{LinkId}
 use Rattle.smc_num.specs.Names.{other, same_side, same_link, head}
-use Rattle.smc_num.specs.Keys.{Key, rmb_bound}
+use Rattle.smc_num.specs.Keys.{rmb_bound}
 use Rattle.smc_num.specs.Places.{address_of}
 use Rattle.cdc_wire.specs.declared.CdcMessage.{CdcMessage}
 use Rattle.clc_wire.specs.declared.offer.Offer.{Offer}
 use Rattle.llc_wire.specs.declared.LlcMessage.{LlcMessage}
-use Rattle.rmb_region.specs.Regions.{Buffer, IsInside, fresh, lands}
+use Rattle.rmb_region.specs.Regions.{Buffer, IsInside, lands}
 use Rattle.pipe_model.specs.declared.setup.Setup.{Setup}
 use Rattle.pipe_model.specs.declared.sent.Sent.{Sent}
 use Rattle.pipe_model.specs.declared.entry.Entry.{Entry}
@@ -24,20 +24,20 @@ use Rattle.pipe_model.specs.Wires.{is_on, unlanded}
 use Rattle.pipe_model.specs.Ends.{Half, to_land}
 use Rattle.pipe_model.specs.Parts.{IsCounted}
 use Rattle.pipe_model.specs.Pipe.{half}
-use Rattle.pipe_model.specs.Connections.{is_up, part, group_on}
+use Rattle.pipe_model.specs.Connections.{is_up, part}
 use Rattle.pipe_model.specs.Lending.{Lending, lends_by, terms_of, pipe_of, record_of}
 use Rattle.pipe_model.specs.Keys.{Keys, keys_of}
 use Rattle.pipe_model.specs.Home.{following_cdc}
 use Rattle.pipe_model.specs.Posts.{offered_place}
 use Rattle.pipe_model.proofs.Facts.{is-counted}
 use Rattle.rc_link.specs.declared.Carried.{Carried}
-use Rattle.rc_link.specs.Wire.{Queues, placed}
+use Rattle.rc_link.specs.Wire.{Queues, placed, next_cdc}
 use Rattle.conn_end.specs.Kept.{Kept, StandsFor as EndStandsFor}
-use Rattle.side_core.specs.Records.{Connection, conn_at, aimer}
+use Rattle.side_core.specs.Records.{conn_at, aimer}
 use Rattle.side_core.specs.Manager.{Manager, StandsFor}
 use Rattle.side_core.specs.Desk.{Desk}
-use Rattle.side_core.specs.Acting.{MayWrite, bytes_land, region_at, buffer_of as buffer_among}
-use Rattle.side_core.specs.Comings.{IsGoing, IsGoingTo, IsGoingAt, MayGo}
+use Rattle.side_core.specs.Acting.{MayWrite, bytes_land, buffer_of as buffer_among}
+use Rattle.side_core.specs.Comings.{IsGoing, IsGoingTo, IsGoingAt}
 use Rattle.side_core.specs.Landing.{MayGoOut}
 use Rattle.world_core.specs.Played.{IsOneLink, IsPlayed}
 use Rattle.world_core.specs.OneLink.{the_link, the_key, the_keys}
@@ -46,9 +46,9 @@ use Rattle.world_core.specs.Wired.{cdc_under, if_meant}
 use Rattle.world_core.specs.WireSteps.{EachPost, EachPlaced, landing_now}
 use Rattle.world_core.specs.Directed.{GoesHome, IsDirected, IsUnderWay}
 use Rattle.world_core.specs.Agreement.{IsElse}
-use Rattle.world_core.specs.Landed.{next_cdc, carried, bytes_of, written_for, first_lands, peer_buffer, buffer_of, waiting_posts, Carries, Reaches, IsRmb}
+use Rattle.world_core.specs.Landed.{carried, bytes_of, written_for, first_lands, peer_buffer, buffer_of, waiting_posts, Carries, Reaches, IsRmb}
 use Rattle.world_core.specs.Hosts.{IsWorldSet, IsWireAfter, half_of}
-use Rattle.world_core.specs.Managers.{manager_of, records_of, HasLendings}
+use Rattle.world_core.specs.Managers.{manager_of, HasLendings}
 use Rattle.world_core.proofs.Heads.{unlanded-there, gave, Gave}
 use Rattle.world_core.proofs.Own.{grouped}
 use Rattle.world_core.proofs.OnWay.{carries-up, Tells, tells-next}
@@ -64,7 +64,7 @@ use Rattle.world_core.proofs.Agreement.{agrees}
 use Rattle.world_core.proofs.Parts.{part-open}
 use Rattle.world_core.proofs.Pipes.{has-pipe}
 use Rattle.world_core.proofs.GoingUp.{completed-told}
-use Rattle.world_core.proofs.EndRecords.{KeptBeside, UpConn, up-conn, plain_conn}
+use Rattle.world_core.proofs.EndRecords.{UpConn, up-conn}
 
 -- the posts of placed ones
 posts-each : (P : Post → Type 0) (cs : List Placed) → EachPlaced (λ c. P c.post) cs → EachPost P (map (λ c. c.post) cs)

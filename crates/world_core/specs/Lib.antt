@@ -22,3 +22,4 @@ pub mod Streams
 pub mod Views
 pub mod WireSteps
 pub mod Wired
+pub mod Calling

@@ -1,19 +1,15 @@
 //! A socket is opened, and its hosts take each other's CLC messages.
-ghost use Rattle.std.specs.Prelude.{◌≡◌, ◌<◌, ◌≤◌, ◌++◌, ◌^◌, ◌+◌, length, filter, true, [], Some};
+ghost use Rattle.std.specs.Prelude.{◌≡◌, ◌<◌, ◌≤◌, ◌^◌, length, [], Some};
 ghost use Rattle.smc_num.specs.declared.Side.TheVariants.{A};
 ghost use Rattle.smc_num.specs.Names.{other};
 ghost use Rattle.clc_wire.specs.Clc.{clc_length};
 ghost use Rattle.pipe_model.specs.declared.event.Event.TheVariants.{Open, Clc};
-ghost use Rattle.pipe_model.specs.Connections.{NoEnd};
 ghost use Rattle.pipe_model.specs.Ends.{Half};
-ghost use Rattle.rc_link.specs.Wire.{room_of};
-ghost use Rattle.side_core.specs.Landing.{falls_at, opens_at, opening_posts};
 ghost use Rattle.side_core.specs.Manager.{Manager, StandsFor, state_at};
 ghost use Rattle.side_core.specs.Taking.{with_desk};
 ghost use Rattle.world_core.specs.Steps.{does_something};
-ghost use Rattle.world_core.specs.Sending.{carried_from, goes_on_wire, puts_all, MaySendAll};
 ghost use Rattle.world_core.specs.Handing.{due_on, has_end, hands_over, link_made_by, makes_at, MayMake};
-ghost use Rattle.world_core.specs.Hosts.{AreHosts, IsPlayedBy, told_at, with_posts};
+ghost use Rattle.world_core.specs.Hosts.{AreHosts, IsPlayedBy, told_at};
 
 use crate::host::{Host, Untaken};
 use crate::moment::Moment;

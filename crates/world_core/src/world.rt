@@ -1,7 +1,8 @@
 //! The world: what was set, what has happened, what was handed out, and the two hosts.
-ghost use Rattle.std.specs.Prelude.{◌≡◌, ◌↔◌, ◌≤◌, ◌<◌, ◌+◌, ◌^◌, ◌++◌, ◌∷◌, [], ℕ, length, vec_len, vec_capacity, IfOk, IsTrue, None, Some, Err, option_to_list, reverse};
+ghost use Rattle.std.specs.Prelude.{◌≡◌, ◌↔◌, ◌≤◌, ◌<◌, ◌+◌, ◌^◌, ◌++◌, ◌∷◌, [], ℕ, length, vec_len, vec_capacity, IfOk, IfSome, IsTrue, None, Some, Err, option_to_list, reverse};
 ghost use Rattle.std.specs.List.{All, find, flat_map};
 ghost use Rattle.smc_num.specs.declared.Side.TheVariants.{A};
+ghost use Rattle.smc_num.specs.Names.{up_to};
 ghost use Rattle.pipe_model.specs.Fits.{Fits};
 ghost use Rattle.pipe_model.specs.Lawful.{IsLawful, IsStep};
 ghost use Rattle.world_core.specs.Played.{IsOneLink, IsPlayed, handed};
@@ -295,7 +296,8 @@ impl World {
     /// The first event, in the order of the link's posts and then of the sockets as they were opened, that
     /// would do something.
     pub fn next(&self) -> Option<Event>
-        ensures { result ≡ next_event self.now }
+        ensures first { result ≡ next_event self.now }
+        ensures fits { IfSome result (Fits self.now.setup (length self.now.payload)) }
     {
         match self.next_on_link() {
             Some(event) => Some(event),
@@ -305,7 +307,8 @@ impl World {
 
     /// The first landing or completion that would do something.
     fn next_on_link(&self) -> Option<Event>
-        ensures { result ≡ find (λ event. does_something (told_by self.now event)) (slot_events 1) }
+        ensures first { result ≡ find (λ event. does_something (told_by self.now event)) (flat_map slot_events (up_to self.now.setup.links)) }
+        ensures fits { IfSome result (Fits self.now.setup (length self.now.payload)) }
     {
         let moment = self.moment();
         if can_land(&self.a, &self.b, moment, Side::A) {
@@ -325,7 +328,8 @@ impl World {
 
     /// The first CLC message that would be taken, on the sockets as they were opened.
     fn next_on_sockets(&self) -> Option<Event>
-        ensures { result ≡ find (λ event. does_something (told_by self.now event)) (flat_map socket_events (opening_order (past self.now))) }
+        ensures first { result ≡ find (λ event. does_something (told_by self.now event)) (flat_map socket_events (opening_order (past self.now))) }
+        ensures fits { IfSome result (Fits self.now.setup (length self.now.payload)) }
     {
         self.next_on_these(&self.opened)
     }
@@ -333,7 +337,8 @@ impl World {
     /// The first CLC message that would be taken on some sockets.
     fn next_on_these(&self, sockets: &[u32]) -> Option<Event>
         requires { All (λ s. s < self.now.setup.sockets) sockets.now }
-        ensures { result ≡ find (λ event. does_something (told_by self.now event)) (flat_map socket_events sockets.now) }
+        ensures first { result ≡ find (λ event. does_something (told_by self.now event)) (flat_map socket_events sockets.now) }
+        ensures fits { IfSome result (Fits self.now.setup (length self.now.payload)) }
     {
         for s in sockets {
             if let Some(event) = self.next_on(*s) {
@@ -346,7 +351,8 @@ impl World {
     /// The first CLC message of a socket that would be taken.
     fn next_on(&self, s: u32) -> Option<Event>
         requires { s < self.now.setup.sockets }
-        ensures { result ≡ find (λ event. does_something (told_by self.now event)) (socket_events s) }
+        ensures first { result ≡ find (λ event. does_something (told_by self.now event)) (socket_events s) }
+        ensures fits { IfSome result (Fits self.now.setup (length self.now.payload)) }
     {
         let moment = self.moment();
         if would_take(&self.b, &self.a, moment, s, Side::A) {
@@ -394,5 +400,127 @@ impl World {
         ensures { result.now ≡ self.now.payload }
     {
         self.payload.as_slice()
+    }
+}
+
+#[cfg(test)]
+mod tests {
+    use super::*;
+    use pipe_model::{End, PostRef, SentKind};
+    use std::test::Fail;
+
+    const A: End = End {
+        side: Side::A,
+        s: 0,
+    };
+
+    const B: End = End {
+        side: Side::B,
+        s: 0,
+    };
+
+    /// Two bytes go from A to B: the opening by its six entries, a write, its two posts, a read.
+    const CROSSING: [(Event, Reply); 10] = [
+        (Event::Open(0), Reply::Opened),
+        (
+            Event::Clc {
+                s: 0,
+                dir: Side::A,
+            },
+            Reply::Sent(SentKind::Accept),
+        ),
+        (
+            Event::Clc {
+                s: 0,
+                dir: Side::B,
+            },
+            Reply::Sent(SentKind::Confirm),
+        ),
+        (
+            Event::Clc {
+                s: 0,
+                dir: Side::A,
+            },
+            Reply::Sent(SentKind::ConfirmLink),
+        ),
+        (
+            Event::Deliver {
+                slot: 1,
+                dir: Side::B,
+            },
+            Reply::Landed(PostRef { entry: 4, post: 1 }),
+        ),
+        (
+            Event::Deliver {
+                slot: 1,
+                dir: Side::A,
+            },
+            Reply::Landed(PostRef { entry: 5, post: 1 }),
+        ),
+        (
+            Event::Write {
+                end: A,
+                at: 0,
+                len: 2,
+            },
+            Reply::Wrote(2),
+        ),
+        (
+            Event::Deliver {
+                slot: 1,
+                dir: Side::A,
+            },
+            Reply::Landed(PostRef { entry: 7, post: 1 }),
+        ),
+        (
+            Event::Deliver {
+                slot: 1,
+                dir: Side::A,
+            },
+            Reply::Landed(PostRef { entry: 7, post: 2 }),
+        ),
+        (
+            Event::Read { end: B, len: 9 },
+            Reply::Bytes { from: 0, len: 2 },
+        ),
+    ];
+
+    /// Two bytes cross, and pumps move the rest: each call once.
+    #[test]
+    fn two_bytes_cross(rt: HostRuntime) -> Result<(), Fail> {
+        let payload = vec![in rt.alloc(); 104, 105]?;
+        let Ok(mut world) = World::new(rt.alloc(), &Setup::default(), payload, Room::default())
+        else {
+            return Err(Fail::new("no world"));
+        };
+        assert_eq!(rt; world.next(), None);
+        for (event, reply) in CROSSING {
+            assert!(rt; world.fits(&event));
+            assert_eq!(rt; world.step(0, event), Ok(reply));
+        }
+        assert!(rt; world.heard() == world.payload());
+        let completes = Event::Complete {
+            slot: 1,
+            dir: Side::A,
+        };
+        assert!(rt; !world.fits(&Event::Cut(1)));
+        assert_eq!(rt; world.pump(0), Ok(Some(Reply::Landed(PostRef { entry: 10, post: 1 }))));
+        assert_eq!(rt; world.next(), Some(completes));
+        assert_eq!(rt; world.pump(0), Ok(Some(Reply::Completed(PostRef { entry: 7, post: 1 }))));
+        assert_eq!(rt; world.history().len(), 12);
+        Ok(())
+    }
+
+    /// A setup of four links is refused, by that field.
+    #[test]
+    fn four_links_are_too_many(rt: HostRuntime) -> Result<(), Fail> {
+        let setup = Setup {
+            links: 4,
+            ..Setup::default()
+        };
+        let payload = vec![in rt.alloc(); 1]?;
+        let fault = World::new(rt.alloc(), &setup, payload, Room::default()).err();
+        assert_eq!(rt; fault, Some(NewFault::BadSetup { field: Field::Links, value: 4 }));
+        Ok(())
     }
 }

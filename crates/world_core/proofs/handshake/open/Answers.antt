@@ -1,11 +1,11 @@
-use Rattle.std.proofs.Common.{◌≡◌, ◌∙◌, ◌++◌, ◌+◌, ◌&&◌, length, true, false, Bool, refl, sym, ap}
+use Rattle.std.proofs.Common.{◌∙◌, ◌++◌, ◌+◌, length, refl, sym, ap}
 use Rattle.smc_num.specs.declared.Side.TheVariants.{A}
 use Rattle.pipe_model.specs.declared.event.Event.TheVariants.{Open}
 use Rattle.side_core.specs.Landing.{opening_posts}
 use Rattle.world_core.specs.Hosts.{past_of, with_posts}
 use Rattle.world_core.specs.Sending.{carried_from, puts_all}
 use Rattle.world_core.proofs.HostsOn.{plays-at, few-past, number-past}
-use Rattle.world_core.proofs.OpeningsAfter.{socket-at-client, socket-at-server, none-at-client, none-at-server, client-side, proposes, may-propose, used-before, fallen-back, begun, not-both, first-fails, both-hold}
+use Rattle.world_core.proofs.OpeningsAfter.{socket-at-client, socket-at-server, none-at-server, used-before, fallen-back, begun, not-both, first-fails, both-hold}
 use Rattle.world_core.proofs.handshake.open.Goals as goal
 use Rattle.world_core.proofs.handshake.open.Goals.{else-a-via-then-a+else-b, else-a-via-else-a}
 

@@ -1,0 +1,247 @@
+-- Both hosts after a landing: what the peer of the sender takes, what it posts, and what stays at the sender.
+use Rattle.std.proofs.Common.{◌≡◌, ◌∙◌, inl, inr, ℕ, ◌+◌, ◌≤◌, ◌<◌, ◌^◌, true, if◌then◌else◌, List, [], ◌∷◌, length, filter, refl, ap, sym, subst, true≢false}
+use Rattle.std.proofs.lemmas.List.{length-reverse}
+use Rattle.std.specs.Prelude.{Option, Some, None, option_and_then, is_some}
+use Rattle.smc_num.specs.declared.Side.{Side}
+use Rattle.smc_num.specs.declared.Side.TheVariants.{A, B}
+use Rattle.smc_num.specs.Names.{other, same_link}
+use Rattle.rmb_region.specs.Regions.{Buffer}
+use Rattle.pipe_model.specs.declared.setup.Setup.{Setup}
+use Rattle.pipe_model.specs.declared.event.Event.TheVariants.{Deliver}
+use Rattle.pipe_model.specs.declared.reply.Reply.{Reply}
+use Rattle.pipe_model.specs.declared.reply.Reply.TheVariants.{Idle, Landed, Dropped}
+use Rattle.pipe_model.specs.declared.post.Post.{Post}
+use Rattle.pipe_model.specs.declared.post.PostRef.{PostRef}
+use Rattle.pipe_model.specs.declared.post.Placed.{Placed}
+use Rattle.pipe_model.specs.declared.entry.Entry.{Entry}
+use Rattle.pipe_model.specs.Words.{passes}
+use Rattle.pipe_model.specs.History.{next_number}
+use Rattle.pipe_model.specs.Fabric.{is_latest}
+use Rattle.pipe_model.specs.Wires.{landing, landing_on, lands_on, if_latest}
+use Rattle.pipe_model.specs.Fallback.{written}
+use Rattle.pipe_model.specs.Ends.{Half}
+use Rattle.pipe_model.specs.Replies.{told, deliver_told}
+use Rattle.pipe_model.specs.Lawful.{posted}
+use Rattle.rc_link.specs.Wire.{Queues, landing as would_land, with_landed, room_of}
+use Rattle.conn_end.specs.Kept.{Kept}
+use Rattle.side_core.specs.Manager.{Manager, StandsFor}
+use Rattle.world_core.specs.declared.host.Host.{Host}
+use Rattle.world_core.specs.declared.host.Outflow.{Outflow}
+use Rattle.world_core.specs.declared.moment.Moment.{Moment}
+use Rattle.world_core.specs.OneLink.{the_link}
+use Rattle.world_core.specs.Agreement.{IsOnlyLink}
+use Rattle.world_core.specs.Played.{IsPlayed, handed}
+use Rattle.world_core.specs.WireSteps.{landing_now}
+use Rattle.world_core.specs.Managers.{manager_of, HasLendings}
+use Rattle.world_core.specs.Leaving.{with_wire}
+use Rattle.world_core.specs.Landed.{buffer_of}
+use Rattle.world_core.specs.Steps.{entry_of}
+use Rattle.world_core.specs.Sending.{carried_from, goes_on_wire, moved, puts_all, MaySendAll}
+use Rattle.world_core.specs.Hosts.{AreHosts, AreHostsAfter, IsHostAfter, IsWireAfter, IsPlayedBy, past_of, with_posts}
+use Rattle.world_core.proofs.HostsKept.{if-none, unposted, buffer-kept, hosts-after, played-now}
+use Rattle.world_core.proofs.AllLendings.{has-lendings}
+use Rattle.world_core.proofs.StreamsAfter.{Flowing, own-flows, their-flows}
+use Rattle.world_core.proofs.ClcPosts.{no-clc-posts, none-put}
+use Rattle.world_core.proofs.OwnWires.{wire-own, room-own, each-aimed}
+use Rattle.world_core.proofs.DataSends.{data-may-go}
+use Rattle.world_core.proofs.WriteEnds.{buffer-stays}
+use Rattle.world_core.proofs.WiresAfter.{wire-theirs}
+use Rattle.world_core.proofs.WireMoves.{only-of}
+use Rattle.world_core.proofs.MovedWires.{deliver-own, deliver-else}
+use Rattle.world_core.proofs.CallEntries.{IsNothing}
+use Rattle.world_core.proofs.LandingEntries.{lands-nothing}
+use Rattle.world_core.proofs.OnWire.{no-landing}
+
+-- nothing lands for the peer of the side that delivers
+none-on : (x : Side) (reply : Reply) → lands_on (other x) 1 (Deliver 1 x) reply ≡ 0
+none-on A (Landed at) = refl
+none-on A (Dropped token) = refl
+none-on A _ = refl
+none-on B (Landed at) = refl
+none-on B (Dropped token) = refl
+none-on B _ = refl
+
+idle-on : (x : Side) → lands_on x 1 (Deliver 1 x) Idle ≡ 0
+idle-on A = refl
+idle-on B = refl
+
+one-on : (x : Side) (at : PostRef) → lands_on x 1 (Deliver 1 x) (Landed at) ≡ 1
+one-on A at = refl
+one-on B at = refl
+
+-- a landing brings no bytes into a stream
+not-written : (payload : List ℕ) (y x : Side) (s : ℕ) (reply : Reply) (past : List Entry) → written payload y s (Deliver 1 x) reply past ≡ []
+not-written payload A x s reply past = refl
+not-written payload B x s reply past = refl
+
+-- what lands is on the latest link
+latest-where : (x : Side) (past : List Entry) (c : Placed) → IsOnlyLink past → landing 1 x past ≡ Some c → is_latest the_link past ≡ true
+latest-where x past c (inl e) f = absurd (true≢false (sym (ap (λ (o : Option Placed). is_some o) (sym (ap (λ o. option_and_then (λ link. landing_on link x past) o) e) ∙ f))))
+latest-where x past c (inr e) f = ap (λ o. passes (same_link the_link) o) e.0
+
+-- both hosts, whoever the actor was
+module _ (setup : Setup) (payload : List ℕ) (past : List Entry) (heard : ℕ) (x : Side) (h k : Host) (before : AreHostsAfter setup payload past heard x h k) (few : length past < 2 ^ 18) (actor : ℕ) where
+  abbrev Now : Entry
+  Now = entry_of setup payload past heard actor (Deliver 1 x)
+
+  abbrev Heard : ℕ
+  Heard = heard + handed (told setup payload past (Deliver 1 x))
+
+  -- what becomes of the manager that takes
+  abbrev pub Taker : Manager Half
+  Taker = manager_of setup payload (buffer_of setup payload (other x) (entry_of setup payload past heard actor (Deliver 1 x) ∷ past) ∷ []) (other x) (entry_of setup payload past heard actor (Deliver 1 x) ∷ past)
+
+  pub play : IsPlayed setup payload (entry_of setup payload past heard actor (Deliver 1 x) ∷ past) (heard + handed (told setup payload past (Deliver 1 x)))
+  play = played-now setup payload past heard x h k before few (Deliver 1 x) refl actor
+
+  pub lent-after : HasLendings setup payload (entry_of setup payload past heard actor (Deliver 1 x) ∷ past)
+  lent-after = let set = before.set in has-lendings setup set.one payload (entry_of setup payload past heard actor (Deliver 1 x) ∷ past) (heard + handed (told setup payload past (Deliver 1 x))) play
+
+  -- one lands for the side that delivers
+  pub one-lands : (c : Placed) → landing 1 x past ≡ Some c → Landed c.at ≡ deliver_told setup payload (other x) past (landing 1 x past) → landing_now the_link x (entry_of setup payload past heard actor (Deliver 1 x)) past ≡ 1
+  one-lands c next is =
+      let set = before.set in
+      ap (λ r. if_latest the_link past (lands_on x 1 (Deliver 1 x) r)) (sym is)
+      ∙ (ap (λ n. if_latest the_link past n) (one-on x c.at) ∙ ap (λ b. if b then 1 else 0) (latest-where x past c (only-of setup set.one payload past heard before.played) next))
+
+  -- the RMB of the sender stays
+  own-buffer : buffer_of setup payload x (Now ∷ past) ≡ buffer_of setup payload x past
+  own-buffer = buffer-kept setup payload past Now x (ap (λ n. if_latest the_link past n) (none-on x (deliver_told setup payload (other x) past (landing 1 x past))) ∙ if-none past)
+
+  -- the sender's host, whose post has left its wire
+  sender-host : (g : Host) (m : Manager Half) → manager_of setup payload (buffer_of setup payload x past ∷ []) x (Now ∷ past) ≡ m → StandsFor g.core m → g.wire ≡ moved x (Deliver 1 x) h.wire → g.flows.items ≡ h.flows.items
+      → IsHostAfter setup payload x (Now ∷ past) g
+  sender-host g m is stands wire_is flows_are =
+      let own = before.own in
+      let set = before.set in record {
+        side = subst (λ (b : Buffer). StandsFor g.core (manager_of setup payload (b ∷ []) x (entry_of setup payload past heard actor (Deliver 1 x) ∷ past))) (sym own-buffer) (subst (λ (n : Manager Half). StandsFor g.core n) (sym is) stands);
+        wire = subst (λ (w : Queues). IsWireAfter setup payload x (entry_of setup payload past heard actor (Deliver 1 x) ∷ past) w) (sym wire_is) (wire-theirs setup set.one payload Now past Heard play x refl h.wire own.wire);
+        sockets = ap (λ (fs : List Outflow). length fs) flows_are ∙ own.sockets;
+        flows = subst (λ (fs : List Outflow). Flowing setup set.one payload x (entry_of setup payload past heard actor (Deliver 1 x) ∷ past) fs) (sym flows_are)
+            (their-flows setup set.one payload Now past Heard play x refl h.flows.items (λ s. refl) (λ s. refl) own.flows);
+      }
+
+  -- the host of its peer, after it has sent what is posted
+  taker-host : (g : Host) → StandsFor g.core Taker → g.wire ≡ with_posts (carried_from Taker (next_number past) 1 (posted setup payload past heard (Deliver 1 x))) k.wire → g.flows.items ≡ puts_all (posted setup payload past heard (Deliver 1 x)) k.flows.items
+      → IsHostAfter setup payload (other x) (Now ∷ past) g
+  taker-host g stands wire_is flows_are =
+      let theirs = before.theirs in
+      let set = before.set in
+      let same = none-put (posted setup payload past heard (Deliver 1 x)) k.flows.items (no-clc-posts setup set.one payload Now past Heard play refl) in record {
+        side = stands;
+        wire = subst (λ (w : Queues). IsWireAfter setup payload (other x) (entry_of setup payload past heard actor (Deliver 1 x) ∷ past) w)
+            (ap (λ (w : Queues). with_posts (carried_from Taker (next_number past) 1 (posted setup payload past heard (Deliver 1 x))) w) (deliver-else x 1 k.wire) ∙ sym wire_is)
+            (wire-own setup set.one payload Now past Heard play lent-after (other x) refl (buffer_of setup payload (other x) (entry_of setup payload past heard actor (Deliver 1 x) ∷ past) ∷ []) k.wire theirs.wire);
+        sockets = ap (λ (fs : List Outflow). length fs) (flows_are ∙ same) ∙ theirs.sockets;
+        flows = subst (λ (fs : List Outflow). Flowing setup set.one payload (other x) (entry_of setup payload past heard actor (Deliver 1 x) ∷ past) fs) (sym flows_are)
+            (own-flows setup set.one payload Now past Heard play k.flows.items theirs.sockets theirs.flows (λ s. not-written payload (other x) x s (deliver_told setup payload (other x) past (landing 1 x past)) past));
+      }
+
+  pub both-hosts : (g l : Host) (m : Manager Half) → manager_of setup payload (buffer_of setup payload x past ∷ []) x (Now ∷ past) ≡ m → StandsFor g.core m → g.wire ≡ moved x (Deliver 1 x) h.wire → g.flows.items ≡ h.flows.items
+      → StandsFor l.core Taker → l.wire ≡ with_posts (carried_from Taker (next_number past) 1 (posted setup payload past heard (Deliver 1 x))) k.wire → l.flows.items ≡ puts_all (posted setup payload past heard (Deliver 1 x)) k.flows.items
+      → AreHostsAfter setup payload (Now ∷ past) Heard x g l
+  both-hosts g l m is stands wire_is flows_are takes taker_wire taker_flows =
+      hosts-after setup payload past heard x h k before few (Deliver 1 x) refl actor g l (sender-host g m is stands wire_is flows_are) (taker-host l takes taker_wire taker_flows)
+
+-- a played landing
+module _ (at : Moment) (x : Side) (h k : Host) (hosts : AreHosts at x h k) (few : length at.history.now < 2 ^ 18) where
+  abbrev S : Setup
+  S = at.setup.now
+
+  abbrev P : List ℕ
+  P = at.payload.now
+
+  abbrev Past : List Entry
+  Past = past_of at
+
+  abbrev Posts : List Post
+  Posts = posted at.setup.now at.payload.now (past_of at) at.heard (Deliver 1 x)
+
+  abbrev OwnRegions : List Buffer
+  OwnRegions = buffer_of at.setup.now at.payload.now x (past_of at) ∷ []
+
+  abbrev After : ℕ → Entry
+  After actor = entry_of at.setup.now at.payload.now (past_of at) at.heard actor (Deliver 1 x)
+
+  pub few-before : length (past_of at) < 2 ^ 18
+  few-before = subst (λ n. n < 2 ^ 18) (sym (length-reverse at.history.now)) few
+
+  pub lent-now : HasLendings at.setup.now at.payload.now (past_of at)
+  lent-now = let set = hosts.set in has-lendings S set.one P Past at.heard hosts.played
+
+  -- both hosts, by what becomes of the one that takes
+  pub is-played : (w : Queues) (l : Host) (reply : Reply) (posts : List Post) (m : Manager Half) → reply ≡ deliver_told S P (other x) Past (landing 1 x Past) → posts ≡ Posts
+      → w ≡ with_landed (would_land h.wire) h.wire → ((actor : ℕ) → manager_of S P OwnRegions x (After actor ∷ Past) ≡ m) → StandsFor h.core m
+      → ((actor : ℕ) → StandsFor l.core (Taker S P Past at.heard x h k hosts few-before actor))
+      → ((v : Manager Half) → StandsFor l.core v → l.wire ≡ with_posts (carried_from v (next_number Past) 1 Posts) k.wire)
+      → l.flows.items ≡ puts_all Posts k.flows.items → IsPlayedBy at (Deliver 1 x) reply posts x (with_wire w h) l
+  is-played w l reply posts m reply_now posts_now wire_is is stands takes taker_wire taker_flows = record {
+    reply_is = reply_now;
+    posts_are = posts_now;
+    after = λ actor.
+        both-hosts S P Past at.heard x h k hosts few-before actor (with_wire w h) l m (is actor) stands (wire_is ∙ sym (deliver-own x 1 h.wire)) refl (takes actor)
+        (taker_wire (Taker S P Past at.heard x h k hosts few-before actor) (takes actor)) taker_flows;
+  }
+
+  -- nothing is posted
+  unposted-wire : Posts ≡ [] → (v : Manager Half) → k.wire ≡ with_posts (carried_from v (next_number Past) 1 Posts) k.wire
+  unposted-wire none v = sym (unposted k.wire) ∙ ap (λ (ps : List Post). with_posts (carried_from v (next_number Past) 1 ps) k.wire) (sym none)
+
+  -- nothing is posted, by a host that has only taken bytes
+  pub quiet-landing : (w : Queues) (v : Manager Kept) (reply : Reply) (posts : List Post) → reply ≡ deliver_told S P (other x) Past (landing 1 x Past) → posts ≡ []
+      → ((regions : List Buffer) (actor : ℕ) → IsNothing S P regions (After actor) Past) → w ≡ with_landed (would_land h.wire) h.wire
+      → ((actor : ℕ) → StandsFor v (manager_of S P (buffer_of S P (other x) (After actor ∷ Past) ∷ []) (other x) Past)) → IsPlayedBy at (Deliver 1 x) reply posts x (with_wire w h) (record k { core = v })
+  quiet-landing w v reply posts reply_now posts_now none wire_is stands =
+      let own = hosts.own in
+      let first = none OwnRegions 0 in
+      let empty : Posts ≡ [] = first.posts in
+      is-played w (record k { core = v }) reply posts (manager_of S P OwnRegions x Past) reply_now (posts_now ∙ sym empty) wire_is (λ actor. let q = none OwnRegions actor in q.kept x) own.side
+      (λ actor. let q = none (buffer_of S P (other x) (After actor ∷ Past) ∷ []) actor in subst (λ (n : Manager Half). StandsFor v n) (sym (q.kept (other x))) (stands actor))
+      (λ n taken. unposted-wire empty n)
+      (ap (λ (ps : List Post). puts_all ps k.flows.items) (sym empty))
+
+  -- nothing lands
+  pub idle-lands : (w : Queues) (posts : List Post) → would_land h.wire ≡ None → posts ≡ [] → w ≡ with_landed (would_land h.wire) h.wire → IsPlayedBy at (Deliver 1 x) Idle posts x (with_wire w h) k
+  idle-lands w posts none posts_now wire_is =
+      let set = hosts.set in
+      let own = hosts.own in
+      let theirs = hosts.theirs in
+      let nothing = no-landing S P x Past h.wire own.wire set.one at.heard hosts.played none in
+      let is : Idle ≡ deliver_told S P (other x) Past (landing 1 x Past) = sym (ap (λ o. deliver_told S P (other x) Past o) nothing) in
+      quiet-landing w k.core Idle posts is posts_now (λ regions actor. lands-nothing S set.one P Past at.heard hosts.played lent-now regions x actor nothing) wire_is
+      (λ actor. subst (λ (b : Buffer). StandsFor k.core (manager_of S P (b ∷ []) (other x) Past))
+      (sym (buffer-stays S P x (After actor) Past (ap (λ r. if_latest the_link Past (lands_on x 1 (Deliver 1 x) r)) (sym is) ∙ (ap (λ n. if_latest the_link Past n) (idle-on x) ∙ if-none Past)))) theirs.side)
+
+  -- what the host of the peer posts
+  module _ (v : Manager Kept) (posts : List Post) (posts_now : posts ≡ posted at.setup.now at.payload.now (past_of at) at.heard (Deliver 1 x))
+      (stands : (actor : ℕ) → StandsFor v (Taker at.setup.now at.payload.now (past_of at) at.heard x h k hosts few-before actor)) where
+    pub may-be-sent : MaySendAll (length k.flows.items) v posts
+    may-be-sent =
+        let theirs = hosts.theirs in
+        let set = hosts.set in
+        let n : ℕ = at.heard + handed (told S P Past (Deliver 1 x)) in
+        let p = play S P Past at.heard x h k hosts few-before 0 in
+        let lendings = lent-after S P Past at.heard x h k hosts few-before 0 in
+        subst (λ n. MaySendAll n v posts) (sym theirs.sockets) (subst (λ (ps : List Post). MaySendAll S.sockets v ps) (sym posts_now)
+        (data-may-go S.sockets v Posts (each-aimed S set.one P (After 0) Past n p lendings (other x) refl (buffer_of S P (other x) (After 0 ∷ Past) ∷ []) v (stands 0)) (no-clc-posts S set.one P (After 0) Past n p refl)))
+
+    pub has-room : length (filter goes_on_wire posts) ≤ room_of k.wire
+    has-room =
+        let theirs = hosts.theirs in
+        let set = hosts.set in
+        let n : ℕ = at.heard + handed (told S P Past (Deliver 1 x)) in
+        let p = play S P Past at.heard x h k hosts few-before 0 in
+        subst (λ (ps : List Post). length (filter goes_on_wire ps) ≤ room_of k.wire) (sym posts_now)
+        (subst (λ (w : Queues). length (filter goes_on_wire Posts) ≤ room_of w) (deliver-else x 1 k.wire) (room-own S set.one P (After 0) Past n p (other x) refl k.wire theirs.wire))
+
+    pub sent-landing : (w : Queues) (m : Manager Half) (reply : Reply) → reply ≡ deliver_told S P (other x) Past (landing 1 x Past) → w ≡ with_landed (would_land h.wire) h.wire
+        → ((actor : ℕ) → manager_of S P OwnRegions x (After actor ∷ Past) ≡ m) → StandsFor h.core m → (l : Host) (entry : ℕ) → entry ≡ length at.history.now + 1 → l.core ≡ v
+        → ((n : Manager Half) → StandsFor v n → l.wire ≡ with_posts (carried_from n entry 1 posts) k.wire) → l.flows.items ≡ puts_all posts k.flows.items → IsPlayedBy at (Deliver 1 x) reply posts x (with_wire w h) l
+    sent-landing w m reply reply_now wire_is is own_stands l entry number core_is sent_is flows_are =
+        let next : entry ≡ next_number Past = number ∙ ap (λ n. n + 1) (sym (length-reverse at.history.now)) in
+        is-played w l reply posts m reply_now posts_now wire_is is own_stands
+        (λ actor. subst (λ u. StandsFor u (Taker S P Past at.heard x h k hosts few-before actor)) (sym core_is) (stands actor))
+        (λ n taken.
+        sent_is n (subst (λ u. StandsFor u n) core_is taken)
+        ∙ (ap (λ i. with_posts (carried_from n i 1 posts) k.wire) next ∙ ap (λ (ps : List Post). with_posts (carried_from n (next_number Past) 1 ps) k.wire) posts_now))
+        (flows_are ∙ ap (λ (ps : List Post). puts_all ps k.flows.items) posts_now)
