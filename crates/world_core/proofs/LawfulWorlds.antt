@@ -1,9 +1,8 @@
 -- Every run of steps keeps a world lawful: a fresh world is so, each entry is a lawful step, and so is the whole history.
-use Rattle.std.specs.Prelude.{◌≡◌, ℕ, ◌<◌, ◌++◌, ◌∷◌, [], ◌+◌, Bool, true, false, cond, List, length, reverse, Option, Some, None, option_to_list}
+use Rattle.std.specs.Prelude.{◌≡◌, ℕ, ◌<◌, ◌++◌, ◌∷◌, [], ◌+◌, Bool, true, false, cond, List, length, Option, Some, None, option_to_list}
 use Rattle.std.specs.List.{find, flat_map}
 use Rattle.std.proofs.Common.{ap, refl, sym, subst, ◌∙◌, length-append}
 use Rattle.std.proofs.lemmas.List.{reverse-append}
-use Rattle.smc_num.specs.declared.Side.TheVariants.{A, B}
 use Rattle.smc_num.specs.Names.{up_to}
 use Rattle.pipe_model.specs.declared.setup.Setup.{Setup}
 use Rattle.pipe_model.specs.declared.setup.Room.{Room}

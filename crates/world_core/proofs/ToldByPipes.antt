@@ -1,6 +1,6 @@
 -- What the calls of a connection were told over a whole played history is what its private pipe tells, and so the same in any two worlds.
 use Rattle.std.proofs.Common.{◌≡◌, ◌∙◌, ◌⊎◌, inl, inr, ◌==◌, ◌&&◌, ℕ, Bool, true, false, if◌then◌else◌, List, [], ◌∷◌, ◌++◌, length, take, drop, map, filter, refl, ap, sym, subst, true≢false, eqb-true, append-nil, append_assoc, ◌||◌, min, nat_lt}
-use Rattle.std.specs.Prelude.{Option, Some, None, is_some}
+use Rattle.std.specs.Prelude.{Option, Some, None}
 use Rattle.std.proofs.Math.Seq.{take-append_seam, drop-append_seam}
 use Rattle.smc_num.specs.declared.Side.{Side}
 use Rattle.smc_num.specs.declared.Side.TheVariants.{A, B}
@@ -24,10 +24,10 @@ use Rattle.pipe_model.specs.Connections.{IsUp, is_up, early_state, end_state, ca
 use Rattle.pipe_model.specs.Lending.{terms_of, pipe_of, leaves_handshake}
 use Rattle.pipe_model.specs.Replies.{told, call_told, end_told}
 use Rattle.pipe_model.specs.Lawful.{asked, reply_of, answers, answers_on, is_call_of, read_as, was_told}
-use Rattle.world_core.specs.Played.{IsOneLink, IsMade, IsPlayed}
+use Rattle.world_core.specs.Played.{IsOneLink, IsPlayed}
 use Rattle.world_core.specs.Heard.{all_bytes, told_bytes}
 use Rattle.world_core.specs.Wired.{EachItem, is_transfer}
-use Rattle.world_core.specs.Agreement.{HasOffers, IsShaken}
+use Rattle.world_core.specs.Agreement.{HasOffers}
 use Rattle.world_core.proofs.Moves.{IsQuiet}
 use Rattle.world_core.proofs.Ways.{own-items}
 use Rattle.world_core.proofs.EntryItems.{each-append, each-more, items-are, below, below-calm, is_fate_or_up}

@@ -6,7 +6,6 @@ use Rattle.std.proofs.lemmas.Bool.Decides.{nat_tests}
 use Rattle.std.proofs.lemmas.List.{reverse-append, length-reverse}
 use Rattle.std.proofs.lemmas.List.Elements.{All-append, All-nil, All-cons}
 use Rattle.smc_num.specs.declared.Side.TheVariants.{A}
-use Rattle.pipe_model.specs.Fits.{Fits}
 use Rattle.pipe_model.specs.Calls.{Told, Plain, Hands}
 use Rattle.pipe_model.specs.Replies.{told}
 use Rattle.pipe_model.specs.Lawful.{reply_of, posted}
@@ -14,11 +13,11 @@ use Rattle.pipe_model.specs.declared.setup.Setup.{Setup}
 use Rattle.pipe_model.specs.declared.entry.Entry.{Entry}
 use Rattle.pipe_model.specs.declared.entry.StepFault.{StepFault}
 use Rattle.pipe_model.specs.declared.event.Event.{Event}
-use Rattle.pipe_model.specs.declared.event.Event.TheVariants.{Open, Clc, Write, Read, Deliver, Complete}
+use Rattle.pipe_model.specs.declared.event.Event.TheVariants.{Open}
 use Rattle.pipe_model.specs.declared.reply.Reply.{Reply}
 use Rattle.pipe_model.specs.declared.reply.Reply.TheVariants.{Opened}
 use Rattle.world_core.specs.declared.host.Host.{Host}
-use Rattle.world_core.specs.Played.{IsBuilt, IsPlayed, IsMade, handed}
+use Rattle.world_core.specs.Played.{IsBuilt, IsPlayed, handed}
 use Rattle.world_core.specs.Heard.{told_bytes, all_bytes}
 use Rattle.world_core.specs.Steps.{Seen, past, entry_of, refusal, reply_to, stepped, told_by, opened_socket, opening_order}
 use Rattle.world_core.specs.declared.moment.Moment.{Moment}
@@ -140,6 +139,6 @@ pub world-of-parts : (w : Seen) (history : List Entry) (heard : List ℕ) (new :
 world-of-parts w history heard new a b opened other hr br or e f g s q r k =
     subst (λ (os : List ℕ). IsWorldAfter (record w { history = history; heard = heard }) a b os hr br or) (sym g)
     (subst (λ (v : Seen). IsWorldAfter v a b opened hr br or)
-      (ap (λ (x : List Entry). let v : Seen = record new { history = x } in v) (sym e) ∙ (ap (λ (x : List ℕ). let v : Seen = record new { history = history; heard = x } in v) (sym f)
-      ∙ (ap (λ x. let v : Seen = record new { history = history; heard = heard; setup = x } in v) s ∙ (ap (λ (x : List ℕ). let v : Seen = record new { history = history; heard = heard; setup = w.setup; payload = x } in v) q
-      ∙ ap (λ x. let v : Seen = record new { history = history; heard = heard; setup = w.setup; payload = w.payload; room = x } in v) r)))) k)
+    (ap (λ (x : List Entry). let v : Seen = record new { history = x } in v) (sym e) ∙ (ap (λ (x : List ℕ). let v : Seen = record new { history = history; heard = x } in v) (sym f)
+    ∙ (ap (λ x. let v : Seen = record new { history = history; heard = heard; setup = x } in v) s ∙ (ap (λ (x : List ℕ). let v : Seen = record new { history = history; heard = heard; setup = w.setup; payload = x } in v) q
+    ∙ ap (λ x. let v : Seen = record new { history = history; heard = heard; setup = w.setup; payload = w.payload; room = x } in v) r)))) k)

@@ -1,7 +1,7 @@
 -- What a world is seen as, and what each event does to it.
 -- A reader learns here that a step adds one entry with what the definitions give after the history before it, when it is refused,
 -- and which event is the next one that would do something.
-use Rattle.std.specs.Prelude.{◌≡◌, ℕ, ◌+◌, nat_le, nat_lt, Bool, true, false, if◌then◌else◌, List, [], ◌∷◌, ◌++◌, length, reverse, Option, Some, None, option_to_list, Result, Ok, Err}
+use Rattle.std.specs.Prelude.{ℕ, ◌+◌, nat_le, nat_lt, Bool, true, false, if◌then◌else◌, List, [], ◌∷◌, ◌++◌, length, reverse, Option, Some, None, option_to_list, Result, Ok, Err}
 use Rattle.std.specs.List.{find, flat_map}
 use Rattle.smc_num.specs.declared.Side.TheVariants.{A, B}
 use Rattle.smc_num.specs.Names.{up_to}

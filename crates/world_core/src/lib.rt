@@ -57,6 +57,6 @@ pub use wire_laws::{
 };
 pub use world::{NewFault, World};
 pub use world_laws::{
-    a_lawful_world_has_a_lawful_history, calls_were_told_by_their_pipes, equal_parts_were_told_the_same,
-    every_run_of_steps_is_lawful,
+    a_lawful_world_has_a_lawful_history, calls_were_told_by_their_pipes,
+    equal_parts_were_told_the_same, every_run_of_steps_is_lawful,
 };

@@ -156,12 +156,7 @@ impl World {
     }
 
     /// A world of these settings, each of which is in its range.
-    fn made(
-        alloc: Global,
-        setup: &Setup,
-        payload: Vec<u8>,
-        room: Room,
-    ) -> Result<World, NoMemory>
+    fn made(alloc: Global, setup: &Setup, payload: Vec<u8>, room: Room) -> Result<World, NoMemory>
         requires good { first_bad setup.now room ≡ None }
         requires payload { length payload.items < 2 ^ 32 }
         ensures { IfOk result (λ world. world ≡ fresh_world setup.now payload.items room) }
@@ -312,16 +307,28 @@ impl World {
     {
         let moment = self.moment();
         if can_land(&self.a, &self.b, moment, Side::A) {
-            return Some(Event::Deliver { slot: 1, dir: Side::A });
+            return Some(Event::Deliver {
+                slot: 1,
+                dir: Side::A,
+            });
         }
         if can_land(&self.b, &self.a, moment, Side::B) {
-            return Some(Event::Deliver { slot: 1, dir: Side::B });
+            return Some(Event::Deliver {
+                slot: 1,
+                dir: Side::B,
+            });
         }
         if can_complete(&self.a, &self.b, moment, Side::A) {
-            return Some(Event::Complete { slot: 1, dir: Side::A });
+            return Some(Event::Complete {
+                slot: 1,
+                dir: Side::A,
+            });
         }
         if can_complete(&self.b, &self.a, moment, Side::B) {
-            return Some(Event::Complete { slot: 1, dir: Side::B });
+            return Some(Event::Complete {
+                slot: 1,
+                dir: Side::B,
+            });
         }
         None
     }
@@ -423,24 +430,15 @@ mod tests {
     const CROSSING: [(Event, Reply); 10] = [
         (Event::Open(0), Reply::Opened),
         (
-            Event::Clc {
-                s: 0,
-                dir: Side::A,
-            },
+            Event::Clc { s: 0, dir: Side::A },
             Reply::Sent(SentKind::Accept),
         ),
         (
-            Event::Clc {
-                s: 0,
-                dir: Side::B,
-            },
+            Event::Clc { s: 0, dir: Side::B },
             Reply::Sent(SentKind::Confirm),
         ),
         (
-            Event::Clc {
-                s: 0,
-                dir: Side::A,
-            },
+            Event::Clc { s: 0, dir: Side::A },
             Reply::Sent(SentKind::ConfirmLink),
         ),
         (
@@ -504,9 +502,15 @@ mod tests {
             dir: Side::A,
         };
         assert!(rt; !world.fits(&Event::Cut(1)));
-        assert_eq!(rt; world.pump(0), Ok(Some(Reply::Landed(PostRef { entry: 10, post: 1 }))));
+        assert_eq!(rt;
+            world.pump(0),
+            Ok(Some(Reply::Landed(PostRef { entry: 10, post: 1 })))
+        );
         assert_eq!(rt; world.next(), Some(completes));
-        assert_eq!(rt; world.pump(0), Ok(Some(Reply::Completed(PostRef { entry: 7, post: 1 }))));
+        assert_eq!(rt;
+            world.pump(0),
+            Ok(Some(Reply::Completed(PostRef { entry: 7, post: 1 })))
+        );
         assert_eq!(rt; world.history().len(), 12);
         Ok(())
     }
@@ -520,7 +524,13 @@ mod tests {
         };
         let payload = vec![in rt.alloc(); 1]?;
         let fault = World::new(rt.alloc(), &setup, payload, Room::default()).err();
-        assert_eq!(rt; fault, Some(NewFault::BadSetup { field: Field::Links, value: 4 }));
+        assert_eq!(rt;
+            fault,
+            Some(NewFault::BadSetup {
+                field: Field::Links,
+                value: 4
+            })
+        );
         Ok(())
     }
 }

@@ -1,5 +1,5 @@
 -- The link's posts come before the sockets.
-use Rattle.std.proofs.Common.{◌≡◌, ◌∙◌, sym}
+use Rattle.std.proofs.Common.{◌∙◌, sym}
 use Rattle.std.specs.List.{flat_map}
 use Rattle.smc_num.specs.Names.{up_to}
 use Rattle.world_core.specs.Steps.{does_something, slot_events, socket_events, opening_order, past, told_by}

@@ -1,5 +1,5 @@
 -- The sockets that were opened are known ones.
-use Rattle.std.proofs.Common.{◌≡◌, ◌<◌, ◌∙◌, List, ℕ, sym, subst}
+use Rattle.std.proofs.Common.{◌<◌, ◌∙◌, List, ℕ, sym, subst}
 use Rattle.std.specs.List.{All}
 use Rattle.world_core.specs.Steps.{Seen, past}
 use Rattle.world_core.proofs.WorldAfter.{all-known}

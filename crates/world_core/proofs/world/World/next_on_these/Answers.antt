@@ -1,6 +1,5 @@
 -- The sockets are looked at one after another.
-use Rattle.std.proofs.Common.{◌≡◌, ◌∙◌, ap, sym, refl, None, drop, length}
-use Rattle.std.specs.List.{find, flat_map}
+use Rattle.std.proofs.Common.{◌∙◌, sym, refl}
 use Rattle.world_core.specs.Steps.{does_something, socket_events, told_by}
 use Rattle.world_core.proofs.NextEvents.{found-here, found-later, found-nowhere}
 use Rattle.world_core.proofs.world.World.next_on_these.Goals as goal
