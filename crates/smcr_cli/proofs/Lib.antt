@@ -3,6 +3,7 @@ pub mod Runs
 pub mod Worlds
 pub mod Commands
 pub mod Inputs
+pub mod LawfulRuns
 pub mod Parts
 pub mod Shares
 pub mod Showing

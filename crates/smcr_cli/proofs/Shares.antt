@@ -3,7 +3,7 @@ use Rattle.std.proofs.Common.{◌≡◌, ◌∙◌, ℕ, ◌+◌, ◌≤◌, Lis
 use Rattle.std.specs.List.{flat_map, sum_by}
 use Rattle.std.specs.Fmt.{decimal}
 use Rattle.std.proofs.lemmas.List.{length-append}
-use Rattle.std.proofs.lemmas.List.Sums.{sum_by-append}
+use Rattle.std.proofs.lemmas.List.Sums.{sum_by-append, sum_by-cons}
 use Rattle.smc_num.specs.declared.Side.{Side}
 use Rattle.smc_num.specs.declared.Side.TheVariants.{A, B}
 use Rattle.pipe_model.specs.declared.entry.Entry.{Entry}
@@ -55,12 +55,20 @@ module _ (x : Side) (s : ℕ) where
   wrote_same : (history : List Entry) → sum_by (wrote_in x s) (shares_of history) ≡ sum_by (wrote_at x s) history
   wrote_same [] = refl
   wrote_same (e ∷ es) =
-      sum_by-append (wrote_in x s) (share_of e) (shares_of es) ∙ ap (λ n. n + sum_by (wrote_in x s) (shares_of es)) (counted e.event (taken_by e.reply) (handed_by e.reply)).0 ∙ ap (λ n. wrote_at x s e + n) (wrote_same es)
+      let front : sum_by (wrote_in x s) (share_of e) ≡ wrote_at x s e = (counted e.event (taken_by e.reply) (handed_by e.reply)).0 in
+      let later : sum_by (wrote_in x s) (shares_of es) ≡ sum_by (wrote_at x s) es = wrote_same es in
+      let parts : sum_by (wrote_in x s) (shares_of (e ∷ es)) ≡ sum_by (wrote_in x s) (share_of e) + sum_by (wrote_in x s) (shares_of es) = sum_by-append (wrote_in x s) (share_of e) (shares_of es) in
+      let all : sum_by (wrote_at x s) (e ∷ es) ≡ wrote_at x s e + sum_by (wrote_at x s) es = sum_by-cons (wrote_at x s) e es in
+      omega arith
 
   read_same : (history : List Entry) → sum_by (read_in x s) (shares_of history) ≡ sum_by (read_at x s) history
   read_same [] = refl
   read_same (e ∷ es) =
-      sum_by-append (read_in x s) (share_of e) (shares_of es) ∙ ap (λ n. n + sum_by (read_in x s) (shares_of es)) (counted e.event (taken_by e.reply) (handed_by e.reply)).1 ∙ ap (λ n. read_at x s e + n) (read_same es)
+      let front : sum_by (read_in x s) (share_of e) ≡ read_at x s e = (counted e.event (taken_by e.reply) (handed_by e.reply)).1 in
+      let later : sum_by (read_in x s) (shares_of es) ≡ sum_by (read_at x s) es = read_same es in
+      let parts : sum_by (read_in x s) (shares_of (e ∷ es)) ≡ sum_by (read_in x s) (share_of e) + sum_by (read_in x s) (shares_of es) = sum_by-append (read_in x s) (share_of e) (shares_of es) in
+      let all : sum_by (read_at x s) (e ∷ es) ≡ read_at x s e + sum_by (read_at x s) es = sum_by-cons (read_at x s) e es in
+      omega arith
 
   sums_same : (history : List Entry) → shared_sums_text (shares_of history) x s ≡ sums_text history x s
   sums_same history =

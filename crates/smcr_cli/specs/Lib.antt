@@ -1,4 +1,5 @@
 pub mod Answers
+pub mod Histories
 pub mod Prints
 pub mod Shares
 pub mod Runs

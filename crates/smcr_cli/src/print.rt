@@ -221,7 +221,10 @@ fn wrote_in_all(side: Side, s: u32, shares: &[Share]) -> u64
     requires { length shares.now < 2 ^ 32 }
     ensures { result ≡ sum_by (wrote_in side s) shares.now }
 {
-    shares.iter().map(|share| wrote(side, s, share) as u64).sum()
+    shares
+        .iter()
+        .map(|share| wrote(side, s, share) as u64)
+        .sum()
 }
 
 /// All bytes that the application read at an end.

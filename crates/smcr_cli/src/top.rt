@@ -1,10 +1,11 @@
 //! The top call: from words and an input to the text that is written, and the status.
-ghost use Rattle.std.specs.Prelude.{◌≡◌, ◌≢◌, ◌≤◌, ◌++◌, ℕ, [], length, map, take, IfOk, OnOk, Err};
+ghost use Rattle.std.specs.Prelude.{◌≡◌, ◌≢◌, ◌≤◌, ◌++◌, ℕ, [], length, map, take, IfOk, OnOk, Err, Some};
 ghost use Rattle.byte_port.specs.Causes.{Rose, Grew};
 ghost use Rattle.scene_text.specs.Scenes.{plain, IsSound};
 ghost use Rattle.scene_text.specs.declared.faults.SceneFault.TheVariants as faults;
 ghost use Rattle.smcr_cli.specs.Runs.{run_of};
 ghost use Rattle.smcr_cli.specs.Answers.{kind_text, refused_text, refusal_text, IsDue};
+ghost use Rattle.smcr_cli.specs.Histories.{HasRun, WroteHistory};
 ghost use Rattle.smcr_cli.specs.Top.{command_named, command_of, answer_to, ran_answer, run_answer, Finishes, Tells};
 
 use crate::print::{Texts, push_history};
@@ -205,7 +206,8 @@ fn finish<K: Sink>(sink: &mut K, text: &[u8], status: Status) -> Status
 }
 
 /// Does what the words ask for with the input of the source, writes the text to the sink, and says
-/// how it ended. Nothing is written before all that there is to write is known.
+/// how it ended. Nothing is written before all that there is to write is known. What a run writes is
+/// the text of a lawful history.
 pub fn smcr<S: Source, K: Sink>(
     alloc: Global,
     words: &[&str],
@@ -213,6 +215,8 @@ pub fn smcr<S: Source, K: Sink>(
     sink: &mut K,
 ) -> Status
     ensures told { Tells result (map (λ w. w.now) words.now) (S.left source.old) (K.held sink.old) (K.held sink.new) }
+    ensures lawful { command_of (map (λ w. w.now) words.now) ≡ Some Command.Run → HasRun result
+        → WroteHistory (S.left source.old) (K.held sink.old) (K.held sink.new) }
     ensures read { result ≡ Status.ReadFault → Rose (S.faults source.old) (S.faults source.new) }
     ensures write { result ≡ Status.WriteFault → Rose (K.faults sink.old) (K.faults sink.new) }
 {

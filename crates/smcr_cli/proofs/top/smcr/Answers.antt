@@ -2,6 +2,7 @@ use Rattle.std.proofs.Common.{◌≡◌, ◌∙◌, ◌++◌, ℕ, List, Option,
 use Rattle.smcr_cli.specs.declared.top.Status.TheVariants as statuses
 use Rattle.smcr_cli.specs.Top.{command_of, answer_to}
 use Rattle.smcr_cli.proofs.Inputs.{some_input, due-usage, due-long, due-command, told}
+use Rattle.smcr_cli.proofs.LawfulRuns.{tells_history}
 use Rattle.smcr_cli.proofs.top.smcr.Goals as goal
 
 pub returns-in-None-clause-told : goal.returns-in-None-clause-told
@@ -33,3 +34,6 @@ returns-in-Ok-answer-clause-told g c =
     ∙ ap (answer_to command) (sym c.deref.ensures.value) ∙ sym c.in-Ok-answer.ensures.answer
     ∙ ap (λ (text : List ℕ). record { status = status; text = text }) (sym c.deref-in-Ok-answer.ensures.value) in
     told _ (record { status = status; text = c.deref-in-Ok-answer.result.now }) words input left _ _ c.in-Ok.ensures.all due c.in-Ok-answer.ensures.due c.finish-in-Ok-answer.ensures.finishes
+
+pub returns-in-Ok-answer-clause-lawful : goal.returns-in-Ok-answer-clause-lawful
+returns-in-Ok-answer-clause-lawful g c = tells_history _ _ _ _ _ (returns-in-Ok-answer-clause-told g c)
