@@ -1,11 +1,11 @@
 -- New hosts stand for an empty history.
 use Rattle.world_core.specs.Hosts.{IsWireAfter}
-use Rattle.std.specs.Prelude.{false, ◌≡◌, ◌≤◌, ◌<◌, ℕ, ◌^◌, zero, suc, false, List, [], ◌∷◌, length, map, replicate, slice_index_or, None}
+use Rattle.std.specs.Prelude.{false, ◌≡◌, ◌≤◌, ◌<◌, ℕ, ◌^◌, zero, suc, false, List, [], ◌∷◌, length, map, replicate, None}
 use Rattle.std.proofs.Common.{refl, sym, ap, subst, ◌∙◌, arith}
 use Rattle.std.proofs.lemmas.List.{length-replicate}
 use Rattle.smc_num.specs.declared.Side.{Side}
 use Rattle.smc_num.specs.declared.Side.TheVariants.{A, B}
-use Rattle.smc_num.specs.Names.{other, up_to}
+use Rattle.smc_num.specs.Names.{up_to}
 use Rattle.rmb_region.specs.Regions.{Buffer, fresh}
 use Rattle.pipe_model.specs.declared.setup.Setup.{Setup}
 use Rattle.pipe_model.specs.declared.setup.Room.{Room}
@@ -21,7 +21,7 @@ use Rattle.world_core.specs.Played.{IsOneLink}
 use Rattle.world_core.specs.Settings.{bad_field}
 use Rattle.world_core.specs.Sending.{still, outflow_at}
 use Rattle.world_core.specs.Steps.{fresh_world}
-use Rattle.world_core.specs.Hosts.{IsHostAfter, AreHostsAfter, IsStreamAfter, IsWorldAfter, places_of}
+use Rattle.world_core.specs.Hosts.{IsHostAfter, IsStreamAfter, IsWorldAfter, places_of}
 use Rattle.world_core.proofs.GoodSettings.{good, world-set}
 use Rattle.world_core.proofs.NewManagers.{new-manager}
 use Rattle.world_core.proofs.WiresAfter.{wire-first}

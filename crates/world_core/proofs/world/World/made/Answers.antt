@@ -1,5 +1,5 @@
 -- A new world stands for an empty history.
-use Rattle.std.proofs.Common.{◌≡◌, refl}
+use Rattle.std.proofs.Common.{refl}
 use Rattle.smc_num.specs.declared.Side.TheVariants.{A, B}
 use Rattle.world_core.specs.Steps.{Seen, fresh_world}
 use Rattle.world_core.proofs.GoodSettings.{good}
