@@ -1,13 +1,12 @@
 //! Two peers and the link between them: the world in which a scene happens.
 //!
 //! [`World::step`] is the one way in which anything changes. It appends one entry: this actor, this
-//! event, and the reply that the state before gives; what the state is then, and what is handed out,
-//! is said case by case in `specs/`. A step is refused only where the room is spent, and changes
-//! nothing then. All memory is taken by [`World::new`].
+//! event, and the reply and the posts that the definitions give after the history before it. A step is
+//! refused only where the room is spent, and changes nothing then. All memory is taken by [`World::new`].
 //!
-//! This first world has one socket and one link. Opening it establishes both ends at once; a post
-//! completes as it lands. Beside it stand laws of the histories that two peers make over one link, by
-//! the definitions of a lawful history.
+//! Each peer is a host: its manager, its posts on the link, and its half of each TCP connection. The type
+//! of a world keeps that both hosts stand for the history, so its history is a lawful one. Beside it
+//! stand laws of all such histories, each a function with nothing to do, whose contract is the law.
 #![tactic(auto)]
 
 mod byte_laws;
