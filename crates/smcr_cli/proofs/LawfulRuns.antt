@@ -1,5 +1,5 @@
 -- The world of each scene that is run has a lawful history: line by line, pump by pump.
-use Rattle.std.proofs.Common.{◌≡◌, ◌∙◌, ℕ, zero, suc, Bool, true, false, cond, List, [], ◌∷◌, length, Option, Some, None, Result, Ok, Err, refl, ap, sym, subst}
+use Rattle.std.proofs.Common.{◌≡◌, ◌∙◌, ℕ, zero, suc, Bool, true, false, List, [], ◌∷◌, length, Option, Some, None, Result, Ok, Err, refl, ap, sym, subst}
 use Rattle.std.specs.Prelude.{nat_lt, if◌then◌else◌, codes}
 use Rattle.std.specs.List.{All}
 use Rattle.std.specs.Str.Lines.{lines}
@@ -19,7 +19,7 @@ use Rattle.scene_text.specs.Grammar.{after_lines, scene_of}
 use Rattle.scene_text.specs.HistoryText.{history_text}
 use Rattle.scene_text.proofs.Ranges.{bind_ok}
 use Rattle.scene_text.proofs.Sound.{lines_sound}
-use Rattle.world_core.specs.Steps.{Seen, fresh_world, after_step, step_answer, pump_answer, after_pump}
+use Rattle.world_core.specs.Steps.{Seen, fresh_world, pump_answer, after_pump}
 use Rattle.world_core.specs.LawfulWorlds.{IsLawfulWorld}
 use Rattle.world_core.proofs.LawfulWorlds.{fresh_is_lawful, history_is_lawful, pump_stays_lawful, step_stays_lawful}
 use Rattle.smcr_cli.specs.declared.top.Command.TheVariants.{Run}
@@ -27,7 +27,7 @@ use Rattle.smcr_cli.specs.declared.top.Status.{Status}
 use Rattle.smcr_cli.specs.declared.top.Status.TheVariants as statuses
 use Rattle.smcr_cli.specs.declared.top.TheConstants.{MOST_INPUT_BYTES}
 use Rattle.smcr_cli.specs.Answers.{Answer}
-use Rattle.smcr_cli.specs.Runs.{Ran, ended, pumped, pumps, run_what, unless_stopped, runs, run_of, SameScene}
+use Rattle.smcr_cli.specs.Runs.{Ran, pumped, pumps, run_what, unless_stopped, runs, run_of, SameScene}
 use Rattle.smcr_cli.specs.Top.{command_of, served, scene_answer, due_answer, Gives, Tells}
 use Rattle.smcr_cli.specs.Histories.{HasRun, WroteHistory}
 use Rattle.smcr_cli.proofs.Runs.{scene-step, scene-pump, scene-more}
