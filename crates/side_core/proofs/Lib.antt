@@ -9,6 +9,7 @@ pub mod Confirms
 pub mod Counting
 pub mod Doings
 pub mod Dues
+pub mod FirstBytes
 pub mod FirstRow
 pub mod Halves
 pub mod Handing

@@ -1,9 +1,9 @@
 //! Each call that needs no message, once; and the calls of the first worked row on the two sides, message by
 //! message. Each of the row's helpers is one call, which takes a side from one plain manager of
-//! `proofs/FirstRow` to the next.
+//! `specs/FirstRow` to the next.
 ghost use Rattle.std.specs.Prelude.{◌≡◌, ◌∷◌, [], IfOk};
 ghost use Rattle.side_core.specs.Manager.{StandsFor};
-ghost use Rattle.side_core.proofs.FirstRow.{a_open, a_confirmed, a_linked, a_wrote, a_heard, a_done, b_open, b_accepted, b_made, b_ready, b_linked, b_landed, b_heard, b_read, b_done};
+ghost use Rattle.side_core.specs.FirstRow.{a_open, a_confirmed, a_linked, a_wrote, a_heard, a_done, b_open, b_accepted, b_made, b_ready, b_linked, b_landed, b_heard, b_read, b_done};
 
 use crate::messages;
 use crate::side::SideCore;
@@ -281,20 +281,22 @@ fn hear_written(rt: &impl Abort, b: &mut SideCore) -> (Option<u32>, Posts)
     requires { StandsFor b.old b_landed }
     ensures { StandsFor b.new b_heard }
 {
-    assert_eq!(rt; b.element_size(), 16_384);
+    let size = b.element_size();
+    assert_eq!(rt; size, 16_384);
     let mut posts = Posts::new();
     let dropped = b.land_cdc(LINK, &WRITTEN, &WRITTEN_PLAIN, &mut posts);
     (dropped, posts)
 }
 
 // The server's application reads them.
-fn read(b: &mut SideCore, out: &mut [u8; 2]) -> (EndReply, Posts)
+fn read(b: &mut SideCore) -> (EndReply, [u8; 2], Posts)
     requires { StandsFor b.old b_heard }
     ensures { StandsFor b.new b_read }
 {
+    let mut out = [0; 2];
     let mut posts = Posts::new();
-    let reply = b.read(0, out, &mut posts);
-    (reply, posts)
+    let reply = b.read(0, &mut out, &mut posts);
+    (reply, out, posts)
 }
 
 // The server's message lands at the client.
@@ -302,7 +304,8 @@ fn hear_read(rt: &impl Abort, a: &mut SideCore) -> (Option<u32>, Posts)
     requires { StandsFor a.old a_wrote }
     ensures { StandsFor a.new a_heard }
 {
-    assert_eq!(rt; a.element_size(), 16_384);
+    let size = a.element_size();
+    assert_eq!(rt; size, 16_384);
     let mut posts = Posts::new();
     let dropped = a.land_cdc(LINK, &READ, &READ_PLAIN, &mut posts);
     (dropped, posts)
@@ -313,7 +316,8 @@ fn complete_written(rt: &impl Abort, a: &mut SideCore) -> Posts
     requires { StandsFor a.old a_heard }
     ensures { StandsFor a.new a_done }
 {
-    assert_eq!(rt; a.element_size(), 16_384);
+    let size = a.element_size();
+    assert_eq!(rt; size, 16_384);
     let mut posts = Posts::new();
     a.complete(LINK, &WRITTEN, &WRITTEN_PLAIN, &mut posts);
     posts
@@ -324,7 +328,8 @@ fn complete_read(rt: &impl Abort, b: &mut SideCore) -> Posts
     requires { StandsFor b.old b_read }
     ensures { StandsFor b.new b_done }
 {
-    assert_eq!(rt; b.element_size(), 16_384);
+    let size = b.element_size();
+    assert_eq!(rt; size, 16_384);
     let mut posts = Posts::new();
     b.complete(LINK, &READ, &READ_PLAIN, &mut posts);
     posts
@@ -412,8 +417,7 @@ fn two_bytes_go_message_by_message(rt: HostRuntime) -> Result<(), NoMemory> {
     let (dropped, posts) = hear_written(&rt, &mut b);
     assert_eq!(rt; dropped, None);
     assert!(rt; posts.is_empty());
-    let mut out = [0; 2];
-    let (reply, posts) = read(&mut b, &mut out);
+    let (reply, out, posts) = read(&mut b);
     assert_eq!(rt; reply, EndReply::Take { from: 0, len: 2 });
     assert_eq!(rt; out, BYTES);
     assert!(rt; *posts.as_slice() == *[cdc(Side::B, READ)].as_slice());
