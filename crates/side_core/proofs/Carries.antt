@@ -16,7 +16,6 @@ use Rattle.clc_handshake.specs.Stages.{Hand}
 use Rattle.pipe_model.specs.declared.flow.FlowStep.{FlowStep}
 use Rattle.pipe_model.specs.declared.flow.FlowStep.TheVariants.{Live}
 use Rattle.pipe_model.specs.declared.flow.LinkView.{LinkView}
-use Rattle.pipe_model.specs.declared.snapshot.Snapshot.{Snapshot}
 use Rattle.pipe_model.specs.declared.sent.Sent.{Sent}
 use Rattle.pipe_model.specs.Connections.{WaitsLink}
 use Rattle.pipe_model.specs.Ends.{Half, is_over}
@@ -25,17 +24,16 @@ use Rattle.pipe_model.specs.Parts.{MayTake as MayTakeSnapshot}
 use Rattle.pipe_model.specs.Pipe.{Terms}
 use Rattle.pipe_model.specs.Posts.{offered_place}
 use Rattle.pipe_model.specs.Replies.{expects}
-use Rattle.pipe_model.specs.Words.{passes}
 use Rattle.conn_end.specs.Arrivals.{Completes}
 use Rattle.conn_end.specs.Batches.{message_of}
 use Rattle.conn_end.specs.Kept.{Kept}
 use Rattle.smc_num.specs.Names.{head}
 use Rattle.side_core.specs.declared.route.Route.{Route}
-use Rattle.side_core.specs.Records.{Connection, Records, Stands, StandsAt, AllStand, conn_at, route_at, has_token, holder, aimer}
+use Rattle.side_core.specs.Records.{Connection, Records, Stands, StandsAt, AllStand, conn_at, has_token, holder, aimer}
 use Rattle.side_core.specs.Desk.{Desk, made_on, IsConfirmLink, IsPendingFor}
 use Rattle.side_core.specs.Manager.{Manager, StandsFor, no_hand, state_at}
 use Rattle.side_core.specs.Taking.{IsOffer, MayHear, MayLend, MayTake}
-use Rattle.side_core.specs.Acting.{IsSound, IsSoundAt, IsWaitingFor, MayConfirm, MayWrite, region_at, buffer_of}
+use Rattle.side_core.specs.Acting.{IsSound, IsSoundAt, IsWaitingFor, MayConfirm, MayWrite, buffer_of}
 use Rattle.side_core.specs.Comings.{Arrives, ArrivesAt, MayArriveAt, CompletesAt, MayCompleteAt, IsGoing, IsGoingAt}
 use Rattle.side_core.specs.Landing.{CanMake, LandsIn, MayLandIn, CompletesIn, MayCompleteIn, MayGoOut}
 use Rattle.side_core.proofs.Allowed.{aimers_same, routes_same}

@@ -1,13 +1,10 @@
 -- What each call of the first worked row must find is so, from its write on: of the plain managers by computation, and so of the sides.
-use Rattle.std.proofs.Common.{◌≡◌, ◌∙◌, ℕ, ◌+◌, ◌^◌, ◌≤◌, ◌<◌, true, false, List, [], ◌∷◌, ◌++◌, length, Option, Some, None, unwrap_or, refl, ap, sym, subst, arith, inr, length-append}
-use Rattle.smc_num.specs.declared.LinkId.{LinkId}
+use Rattle.std.proofs.Common.{◌≡◌, ◌∙◌, ℕ, ◌+◌, List, [], ◌∷◌, ◌++◌, length, Some, unwrap_or, refl, ap, sym, subst, arith, inr, length-append}
 use Rattle.cdc_wire.specs.declared.CdcMessage.{CdcMessage}
-use Rattle.pipe_model.specs.declared.snapshot.Snapshot.{Snapshot}
 use Rattle.pipe_model.specs.Snapshot.{spelled}
 use Rattle.pipe_model.specs.Calls.{Reads}
 use Rattle.pipe_model.specs.Connections.{IsUp}
-use Rattle.pipe_model.specs.Ends.{Half, fresh, takes, completes}
-use Rattle.pipe_model.specs.Parts.{MayTake as MayTakeSnapshot}
+use Rattle.pipe_model.specs.Ends.{Half, fresh}
 use Rattle.conn_end.specs.Kept.{Kept}
 use Rattle.std.specs.Prelude.{take, drop}
 use Rattle.side_core.specs.Records.{Connection, conn_at, new_route, aimer}
@@ -16,7 +13,7 @@ use Rattle.side_core.proofs.Allowed.{aimers_same}
 use Rattle.side_core.specs.Manager.{Manager, StandsFor, state_at}
 use Rattle.side_core.specs.Acting.{IsSoundAt, MayWrite, acts_at, bytes_land, call_of}
 use Rattle.side_core.specs.Landing.{LandsIn, MayLandIn, CompletesIn, MayCompleteIn, MayGoOut}
-use Rattle.side_core.specs.FirstRow.{first_link, a_offer, b_offer, a_told, a_sent, b_told, b_sent, a_linked, a_wrote, a_heard, a_done, b_linked, b_landed, b_heard, b_read, b_done}
+use Rattle.side_core.specs.FirstRow.{first_link, b_offer, a_told, a_sent, b_told, b_sent, a_linked, a_wrote, a_heard, b_linked, b_landed, b_heard, b_read}
 use Rattle.side_core.proofs.Carries.{AreSized, IsSoundHalf, Comes, Goes, Keeps, sound_kept, state_kept, write_kept, lands_in, may_land, completes_in, may_complete, going_at, goes_out}
 
 -- the connection of the one socket

@@ -1,30 +1,23 @@
 -- What each call of the first worked row must find is so: of the plain managers by computation, and so of the sides.
-use Rattle.std.proofs.Common.{◌≡◌, ◌∙◌, ℕ, ◌+◌, ◌^◌, ◌≤◌, ◌<◌, Bool, true, false, List, [], ◌∷◌, length, Option, Some, None, unwrap_or, refl, sym, subst, arith, inr}
+use Rattle.std.proofs.Common.{◌≡◌, ◌∙◌, true, false, [], refl, subst, arith}
 use Rattle.smc_num.specs.declared.Side.TheVariants.{A, B}
 use Rattle.smc_num.specs.Names.{no_link}
-use Rattle.smc_num.specs.declared.LinkPhase.TheVariants.{Pending}
 use Rattle.clc_wire.specs.declared.message.ClcMessage.TheVariants.{Accept, Confirm}
 use Rattle.llc_wire.specs.declared.LlcMessage.{LlcMessage}
 use Rattle.pipe_model.specs.declared.flow.FlowStep.{FlowStep}
-use Rattle.pipe_model.specs.declared.flow.FlowStep.TheVariants.{Live}
 use Rattle.pipe_model.specs.declared.flow.LinkView.{LinkView}
 use Rattle.pipe_model.specs.Flows.{flow_step}
 use Rattle.pipe_model.specs.Settings.{default_setup}
 use Rattle.pipe_model.specs.Messages.{confirm_link}
-use Rattle.pipe_model.specs.Ends.{Half, fresh}
-use Rattle.pipe_model.specs.Connections.{IsUp}
-use Rattle.cdc_wire.specs.declared.CdcMessage.{CdcMessage}
-use Rattle.pipe_model.specs.Snapshot.{spelled}
+use Rattle.pipe_model.specs.Ends.{fresh}
 use Rattle.conn_end.specs.Kept.{Kept}
-use Rattle.side_core.specs.declared.route.Route.{Route}
-use Rattle.side_core.specs.Records.{Connection, conn_at, new_route, aimer, holder}
-use Rattle.side_core.specs.Manager.{Manager, StandsFor, state_at}
+use Rattle.side_core.specs.Records.{conn_at}
+use Rattle.side_core.specs.Manager.{Manager, StandsFor}
 use Rattle.side_core.specs.Taking.{MayTake}
-use Rattle.side_core.specs.Acting.{IsSoundAt, MayConfirm, MayWrite, confirms_link}
-use Rattle.side_core.specs.Landing.{CanMake, LandsIn, MayLandIn, CompletesIn, MayCompleteIn, MayGoOut}
-use Rattle.side_core.specs.Comings.{IsGoingAt}
-use Rattle.side_core.specs.FirstRow.{first_link, paths, proposed, a_offer, b_offer, a_told, a_sent, b_told, b_sent, a_open, a_confirmed, a_linked, a_wrote, a_heard, b_open, b_accepted, b_made, b_ready, b_linked, b_landed, b_heard, b_read}
-use Rattle.side_core.proofs.Carries.{AreSized, IsSoundHalf, IsSoundPlain, Confirms, Comes, Goes, Keeps, take_kept, sound_kept, first_sound_kept, state_kept, make_kept, confirm_kept, confirm_step, write_kept, lands_in, may_land, completes_in, may_complete, going_at, goes_out}
+use Rattle.side_core.specs.Acting.{IsSoundAt, MayConfirm, confirms_link}
+use Rattle.side_core.specs.Landing.{CanMake}
+use Rattle.side_core.specs.FirstRow.{first_link, paths, proposed, a_offer, b_offer, a_open, a_confirmed, a_linked, b_open, b_accepted, b_made, b_ready, b_linked}
+use Rattle.side_core.proofs.Carries.{IsSoundHalf, Confirms, take_kept, sound_kept, first_sound_kept, make_kept, confirm_kept, confirm_step}
 
 -- the Proposal may be taken
 proposal_may : MayTake 0 proposed no_link paths b_open
@@ -57,6 +50,7 @@ confirm_may = record { socket = omega arith; waits = refl; hears = (record { slo
 pub may_ask : (v : Manager Kept) → StandsFor v b_made → MayTake 0 (Confirm a_offer) first_link paths v
 may_ask v st = take_kept 0 (Confirm a_offer) first_link paths v b_made st confirm_may
 
+-- a new end is sound
 new_sound : IsSoundHalf 16384 (record (fresh 1) { live = [] })
 new_sound = record { out_few = omega arith; number_few = omega arith; fits = omega arith }
 
@@ -67,13 +61,15 @@ sound_ask v st = sound_kept 0 v b_made st new_sound
 abbrev pub view : LinkView
 view = record { path_up = true; stands_here = true; stands_there = true }
 
+-- CONFIRM LINK
 abbrev pub asked : LlcMessage
 asked = confirm_link default_setup B false first_link 17
 
+-- the reply to it
 abbrev pub answered : LlcMessage
 answered = confirm_link default_setup A true first_link 17
 
--- CONFIRM LINK may land
+-- it may land
 asked_confirms : Confirms true asked view first_link a_confirmed
 asked_confirms = record { kind = tt; slot = refl; group = refl; latest = refl; step = refl; pending = refl; waits = refl }
 

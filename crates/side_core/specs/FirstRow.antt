@@ -29,33 +29,37 @@ first_link = record { group = 1; slot = 1; incarnation = 1 }
 abbrev pub paths : List Bool
 paths = true ∷ []
 
--- the messages of the handshake
+-- the Proposal
 abbrev pub proposed : ClcMessage
 proposed = Proposal (proposal default_setup)
 
+-- the first element of an RMB, which each side offers
 abbrev pub element : Place
 element = record { rmb = 1; index = 1 }
 
+-- the server's offer
 abbrev pub b_offer : Offer
 b_offer = offer default_setup B true first_link 17 513 element 1
 
+-- the client's
 abbrev pub a_offer : Offer
 a_offer = offer default_setup A true first_link 17 257 element 1
 
--- the two CDC messages
+-- the snapshot of the client's one CDC message, behind its two bytes, and the message
 abbrev pub a_told : Snapshot
 a_told = record { number = 1; told = 2; read = 0; done = false; closed = false; aborted = false }
 
 abbrev pub a_sent : Sent
 a_sent = record { link = first_link; check = false; from = 0; snapshot = a_told }
 
+-- the snapshot of the server's, behind its read, and the message
 abbrev pub b_told : Snapshot
 b_told = record { number = 1; told = 0; read = 2; done = false; closed = false; aborted = false }
 
 abbrev pub b_sent : Sent
 b_sent = record { link = first_link; check = false; from = 0; snapshot = b_told }
 
--- the client, call by call
+-- the client, call by call: it opens, takes the Accept, takes CONFIRM LINK, writes, takes the server's CDC message, and its own completes
 abbrev pub a_open : Manager Half
 a_open = opens_at 0 false (new_manager A default_setup)
 
@@ -74,7 +78,8 @@ a_heard = acts_at 0 (takes (Some b_sent)) a_wrote
 abbrev pub a_done : Manager Half
 a_done = acts_at 0 (completes (Some a_sent)) a_heard
 
--- the server, call by call
+-- the server, call by call: it opens, takes the Proposal, has the link, takes the Confirm, takes the reply to CONFIRM LINK, has the
+-- bytes, takes the client's CDC message, reads, and its own completes
 abbrev pub b_open : Manager Half
 b_open = opens_at 0 false (new_manager B default_setup)
 

@@ -1,7 +1,7 @@
 //! Each call that needs no message, once; and the calls of the first worked row on the two sides, message by
 //! message. Each of the row's helpers is one call, which takes a side from one plain manager of
 //! `specs/FirstRow` to the next.
-ghost use Rattle.std.specs.Prelude.{◌≡◌, ◌∷◌, [], IfOk};
+ghost use Rattle.std.specs.Prelude.{IfOk};
 ghost use Rattle.side_core.specs.Manager.{StandsFor};
 ghost use Rattle.side_core.specs.FirstRow.{a_open, a_confirmed, a_linked, a_wrote, a_heard, a_done, b_open, b_accepted, b_made, b_ready, b_linked, b_landed, b_heard, b_read, b_done};
 
@@ -380,10 +380,22 @@ fn connected(rt: &impl Abort, alloc: Global) -> Result<(SideCore, SideCore), NoM
     assert_eq!(rt; reply, Reply::Sent(SentKind::ConfirmLink));
     assert!(rt; *posts.as_slice() == *[llc(Side::B, CONFIRM_LINK)].as_slice());
     let (step, posts) = answer_link(&mut a);
-    assert_eq!(rt; step, FlowStep::Live { reply: true, first: true });
+    assert_eq!(rt;
+        step,
+        FlowStep::Live {
+            reply: true,
+            first: true
+        }
+    );
     assert!(rt; *posts.as_slice() == *[llc(Side::A, LINK_REPLY)].as_slice());
     let (step, posts) = establish(&mut b);
-    assert_eq!(rt; step, FlowStep::Live { reply: false, first: true });
+    assert_eq!(rt;
+        step,
+        FlowStep::Live {
+            reply: false,
+            first: true
+        }
+    );
     assert!(rt; posts.is_empty());
     Ok((a, b))
 }
