@@ -1,7 +1,7 @@
 -- Messages that come to the connection of a socket.
 -- A reader learns here that one which may come to what is kept of its end may come to every plain end for which that stands.
-use Rattle.std.proofs.Common.{◌≡◌, ◌∙◌, ℕ, ◌-◌, true, false, List, Option, Some, None, IsSome, refl, sym, ap, subst, true≢false}
-use Rattle.std.specs.Prelude.{slice_index_or, slice_set}
+use Rattle.std.proofs.Common.{◌≡◌, ◌∙◌, ℕ, ◌-◌, true, List, Option, Some, None, IsSome, refl, sym, ap, true≢false}
+use Rattle.std.specs.Prelude.{slice_set}
 use Rattle.std.proofs.lemmas.List.Quantifiers.{position-Some}
 use Rattle.cdc_wire.specs.declared.CdcMessage.{CdcMessage}
 use Rattle.rmb_region.specs.Regions.{Buffer, lands as lands_in}
@@ -11,7 +11,7 @@ use Rattle.pipe_model.specs.Ends.{Half}
 use Rattle.conn_end.specs.Kept.{Kept}
 use Rattle.side_core.specs.Records.{Connection, Records, StandsAt, conn_at, is_aimed_at, aimer}
 use Rattle.side_core.specs.Comings.{MayArriveAt, ArrivesAt, MayCompleteAt, CompletesAt}
-use Rattle.side_core.specs.Manager.{Manager, Works, StandsFor}
+use Rattle.side_core.specs.Manager.{Manager, StandsFor}
 use Rattle.side_core.specs.Acting.{buffer_of, bytes_land}
 use Rattle.side_core.specs.Fit.{IsManager}
 use Rattle.side_core.proofs.Acts.{bytes_fit}

@@ -3,11 +3,14 @@ pub mod Acts
 pub mod Allowed
 pub mod Arriving
 pub mod Beginning
+pub mod Carries
 pub mod Confirming
 pub mod Confirms
 pub mod Counting
 pub mod Doings
 pub mod Dues
+pub mod FirstBytes
+pub mod FirstRow
 pub mod Halves
 pub mod Handing
 pub mod Hands

@@ -1,6 +1,7 @@
 pub mod Acting
 pub mod Comings
 pub mod Desk
+pub mod FirstRow
 pub mod Fit
 pub mod Inside
 pub mod Landing
