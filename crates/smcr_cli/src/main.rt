@@ -55,3 +55,5 @@ fn main(rt: HostRuntime) -> ExitCode {
 mod print_tests;
 #[cfg(test)]
 mod tests;
+#[cfg(test)]
+mod world_tests;

@@ -15,6 +15,9 @@ use Rattle.world_core.specs.Hosts.{AreHostsAfter, IsPlayedBy}
 pub swapped : (setup : Setup) (payload : List ℕ) (past : List Entry) (heard : ℕ) (a b : Host) → AreHostsAfter setup payload past heard B b a → AreHostsAfter setup payload past heard A a b
 swapped setup payload past heard a b h = record { set = h.set; few = h.few; played = h.played; own = h.theirs; theirs = h.own }
 
+pub turned : (setup : Setup) (payload : List ℕ) (past : List Entry) (heard : ℕ) (a b : Host) → AreHostsAfter setup payload past heard A a b → AreHostsAfter setup payload past heard B b a
+turned setup payload past heard a b h = record { set = h.set; few = h.few; played = h.played; own = h.theirs; theirs = h.own }
+
 pub played_swapped : (at : Moment) (event : Event) (reply : Reply) (posts : List Post) (a b : Host) → IsPlayedBy at event reply posts B b a → IsPlayedBy at event reply posts A a b
 played_swapped at event reply posts a b p = record { reply_is = p.reply_is; posts_are = p.posts_are; after = λ actor. let h = p.after actor in record { set = h.set; few = h.few; played = h.played; own = h.theirs; theirs = h.own } }
 

@@ -13,11 +13,10 @@ use Rattle.pipe_model.specs.declared.entry.Entry.{Entry}
 use Rattle.pipe_model.specs.Wires.{landing, completing, completed_told}
 use Rattle.pipe_model.specs.Lending.{record_of}
 use Rattle.pipe_model.specs.Calls.{Plain}
-use Rattle.pipe_model.specs.Replies.{deliver_told, lands_told}
+use Rattle.pipe_model.specs.Replies.{told, deliver_told, lands_told}
 use Rattle.world_core.specs.Steps.{does_something}
 use Rattle.world_core.specs.declared.host.Host.{Host}
-use Rattle.world_core.specs.declared.moment.Moment.{Moment}
-use Rattle.world_core.specs.Hosts.{AreHosts, told_at, past_of}
+use Rattle.world_core.specs.Hosts.{AreHostsAfter}
 use Rattle.rc_link.specs.Wire.{landing as would_land, completing as would_complete}
 use Rattle.world_core.proofs.WireMoves.{lands-alike, completes-alike}
 
@@ -41,15 +40,15 @@ completes-told : (o : Option Placed) → is_some o ≡ does_something (Plain (co
 completes-told None = refl
 completes-told (Some c) = refl
 
-module _ (at : Moment) (x : Side) (h k : Host) (hosts : AreHosts at x h k) where
-  pub would-land : is_some (would_land h.wire) ≡ does_something (told_at at (Deliver 1 x))
+module _ (setup : Setup) (payload : List ℕ) (past : List Entry) (heard : ℕ) (x : Side) (h k : Host) (hosts : AreHostsAfter setup payload past heard x h k) where
+  pub would-land : is_some (would_land h.wire) ≡ does_something (told setup payload past (Deliver 1 x))
   would-land =
       let own = hosts.own in
       let set = hosts.set in
-      lands-alike at.setup.now at.payload.now x (past_of at) h.wire own.wire set.one at.heard hosts.played ∙ lands-told at.setup.now at.payload.now (other x) (past_of at) (landing 1 x (past_of at))
+      lands-alike setup payload x past h.wire own.wire set.one heard hosts.played ∙ lands-told setup payload (other x) past (landing 1 x past)
 
-  pub would-complete : is_some (would_complete h.wire) ≡ does_something (told_at at (Complete 1 x))
+  pub would-complete : is_some (would_complete h.wire) ≡ does_something (told setup payload past (Complete 1 x))
   would-complete =
       let own = hosts.own in
       let set = hosts.set in
-      completes-alike at.setup.now at.payload.now x (past_of at) h.wire own.wire set.one at.heard hosts.played ∙ completes-told (completing 1 x (past_of at))
+      completes-alike setup payload x past h.wire own.wire set.one heard hosts.played ∙ completes-told (completing 1 x past)

@@ -46,7 +46,7 @@ use Rattle.world_core.specs.OneLink.{the_link}
 use Rattle.world_core.specs.Managers.{manager_of}
 use Rattle.world_core.specs.WireSteps.{landing_now}
 use Rattle.world_core.specs.Sending.{carried_from, goes_on_wire, moved, outflow_at, puts_all, takes_next, MaySendAll}
-use Rattle.world_core.specs.Handing.{due_of, due_on, hands_over, link_made_by, makes_at, MayMake}
+use Rattle.world_core.specs.Handing.{due_of, due_on, hands_over, link_made_by, makes_at, MayMake, is_taken_on, is_taken_by}
 use Rattle.world_core.specs.Steps.{entry_of, does_something}
 use Rattle.world_core.specs.Hosts.{AreHostsAfter, IsHostAfter, IsNext, IsStreamAfter, with_posts}
 use Rattle.world_core.proofs.QuietEvents.{entry-of}
@@ -214,15 +214,22 @@ module _ (setup : Setup) (payload : List ℕ) (past : List Entry) (heard s : ℕ
   reply-now u e = let t = given-by own-regions 0 u e in told-alike u.message ∙ sym t.reply
 
   -- whether it would be taken
-  pub would-now : (u : Untaken) → due_on s own.core theirs.flows.items ≡ Some u → not (is_wait (verdict_at s u.message (true ∷ []) own.core)) ≡ does_something (told setup payload past (Clc s dir))
+  would-now : (u : Untaken) → due_on s own.core theirs.flows.items ≡ Some u → not (is_wait (verdict_at s u.message (true ∷ []) own.core)) ≡ does_something (told setup payload past (Clc s dir))
   would-now u e =
       let set = before.set in
       let d = is-due u e in
       ap (λ paths. not (is_wait (verdict_at s u.message paths own.core))) (sym up-now)
       ∙ sym (would-take setup set.one payload own-regions past heard before.played s known dir d.waits u.message d.first own.core own-stands)
 
-  pub would-not : due_on s own.core theirs.flows.items ≡ None → false ≡ does_something (told setup payload past (Clc s dir))
+  would-not : due_on s own.core theirs.flows.items ≡ None → false ≡ does_something (told setup payload past (Clc s dir))
   would-not e = let set = before.set in sym (would-idle setup set.one payload own-regions past heard before.played s known dir (none-due e))
+
+  pub would-be-taken : is_taken_on s own.core theirs.flows.items ≡ does_something (told setup payload past (Clc s dir))
+  would-be-taken = by (due_on s own.core theirs.flows.items) refl
+    where
+      by : (o : Option Untaken) → due_on s own.core theirs.flows.items ≡ o → is_taken_by s own.core o ≡ does_something (told setup payload past (Clc s dir))
+      by None e = would-not e
+      by (Some u) e = would-now u e
 
   link-alike : (u : Untaken) → due_on s own.core theirs.flows.items ≡ Some u → unwrap_or u.link no_link ≡ link_of dir s past
   link-alike u e = let d = is-due u e in ap (λ (o : Option LinkId). unwrap_or o no_link) d.link

@@ -16,7 +16,7 @@ use Rattle.pipe_model.specs.declared.entry.StepFault.{StepFault}
 use Rattle.pipe_model.specs.declared.entry.StepFault.TheVariants.{Spent, BytesSpent}
 use Rattle.pipe_model.specs.Calls.{Told, Plain}
 use Rattle.pipe_model.specs.Replies.{told}
-use Rattle.pipe_model.specs.Lawful.{reply_of, posted}
+use Rattle.pipe_model.specs.Lawful.{reply_of, posted, IsStep}
 use Rattle.world_core.specs.Played.{handed}
 use Rattle.world_core.specs.Heard.{told_bytes}
 
@@ -49,6 +49,11 @@ entry_of setup payload before heard actor event = record {
   reply = reply_of heard (told setup payload before event);
   posts = posted setup payload before heard event;
 }
+
+-- that the second world is the first one after an event of an actor, and its newest entry a lawful step
+abbrev pub IsLawfulStep : ℕ → Event → Seen → Seen → Type 0
+IsLawfulStep actor event old new =
+    IsStep old.setup old.payload (past old) old.heard (entry_of old.setup old.payload (past old) (length old.heard) actor event) new.heard
 
 -- why a step is refused, if it is: all entries are in use, or else too few bytes are left
 abbrev pub refusal : Seen → Event → Option StepFault

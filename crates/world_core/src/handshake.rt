@@ -7,9 +7,8 @@ ghost use Rattle.pipe_model.specs.declared.event.Event.TheVariants.{Open, Clc};
 ghost use Rattle.pipe_model.specs.Ends.{Half};
 ghost use Rattle.side_core.specs.Manager.{Manager, StandsFor, state_at};
 ghost use Rattle.side_core.specs.Taking.{with_desk};
-ghost use Rattle.world_core.specs.Steps.{does_something};
-ghost use Rattle.world_core.specs.Handing.{due_on, has_end, hands_over, link_made_by, makes_at, MayMake};
-ghost use Rattle.world_core.specs.Hosts.{AreHosts, IsPlayedBy, told_at};
+ghost use Rattle.world_core.specs.Handing.{due_on, has_end, hands_over, is_taken_on, link_made_by, makes_at, MayMake};
+ghost use Rattle.world_core.specs.Hosts.{AreHosts, IsPlayedBy};
 
 use crate::host::{Host, Untaken};
 use crate::moment::Moment;
@@ -55,12 +54,11 @@ fn is_opened(core: &SideCore, s: u32) -> bool
     !matches!(core.end_state(s), EndState::Absent)
 }
 
-/// Whether the peer of a side would take its next CLC message on a socket: there is one, and it would not
+/// Whether an end would take the next CLC message of its peer on a socket: there is one, and it would not
 /// be held.
-pub fn would_take(own: &Host, theirs: &Host, moment: Moment<'_>, s: u32, dir: Side) -> bool
-    requires hosts { AreHosts moment (other dir) own.now theirs.now }
-    requires socket { s < moment.setup.now.sockets }
-    ensures { result ≡ does_something (told_at moment.entry (Clc s dir)) }
+pub fn would_take(own: &Host, theirs: &Host, s: u32) -> bool
+    requires { s < length theirs.now.flows.items }
+    ensures { result ≡ is_taken_on s own.now.core theirs.now.flows.items }
 {
     match due(own, theirs, s) {
         Some(next) => !own.core.would_hold(s, &next.message, &[true]),

@@ -4,8 +4,7 @@ ghost use Rattle.smc_num.specs.Links.{is_standing, phase_at};
 ghost use Rattle.pipe_model.specs.declared.event.Event.TheVariants.{Deliver, Complete};
 ghost use Rattle.pipe_model.specs.declared.reply.Reply.TheVariants.{Landed, Completed};
 ghost use Rattle.pipe_model.specs.declared.post.Post.TheVariants.{Write, Cdc, Llc};
-ghost use Rattle.world_core.specs.Steps.{does_something};
-ghost use Rattle.world_core.specs.Hosts.{AreHosts, IsPlayedBy, told_at};
+ghost use Rattle.world_core.specs.Hosts.{AreHosts, IsPlayedBy};
 ghost use Rattle.world_core.specs.Leaving.{HasLanded, HasCompleted};
 
 use crate::host::Host;
@@ -16,22 +15,6 @@ use llc_wire::LlcMessage;
 use pipe_model::{LinkId, LinkPhase, LinkView, Post, Reply, Side};
 use rc_link::Carried;
 use side_core::SideCore;
-
-/// Whether a post of a side would land.
-pub fn can_land(own: &Host, theirs: &Host, moment: Moment<'_>, dir: Side) -> bool
-    requires hosts { AreHosts moment dir own.now theirs.now }
-    ensures { result ≡ does_something (told_at moment.entry (Deliver 1 dir)) }
-{
-    own.wire.can_land()
-}
-
-/// Whether a post of a side would complete.
-pub fn can_complete(own: &Host, theirs: &Host, moment: Moment<'_>, dir: Side) -> bool
-    requires hosts { AreHosts moment dir own.now theirs.now }
-    ensures { result ≡ does_something (told_at moment.entry (Complete 1 dir)) }
-{
-    own.wire.can_complete()
-}
 
 /// The next post of a side lands: the bytes of a write stand in the RMB of its peer, and a message is
 /// taken there.

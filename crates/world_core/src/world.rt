@@ -4,11 +4,12 @@ ghost use Rattle.std.specs.List.{All, find, flat_map};
 ghost use Rattle.smc_num.specs.declared.Side.TheVariants.{A};
 ghost use Rattle.smc_num.specs.Names.{up_to};
 ghost use Rattle.pipe_model.specs.Fits.{Fits};
-ghost use Rattle.pipe_model.specs.Lawful.{IsLawful, IsStep};
+ghost use Rattle.pipe_model.specs.declared.event.Event.TheVariants.{Clc};
+ghost use Rattle.pipe_model.specs.Lawful.{IsLawful};
 ghost use Rattle.world_core.specs.Played.{IsOneLink, IsPlayed, handed};
 ghost use Rattle.world_core.specs.Heard.{all_bytes, told_bytes};
 ghost use Rattle.world_core.specs.Settings.{bad_field as first_bad};
-ghost use Rattle.world_core.specs.Steps.{fresh_world, refusal, reply_to, stepped, step_answer, after_step, does_something, slot_events, socket_events, next_event, opened_socket, opening_order, past, pump_answer, after_pump, told_by, entry_of};
+ghost use Rattle.world_core.specs.Steps.{fresh_world, refusal, reply_to, stepped, step_answer, after_step, does_something, slot_events, socket_events, next_event, opened_socket, opening_order, past, pump_answer, after_pump, told_by, IsLawfulStep};
 ghost use Rattle.world_core.specs.Hosts.{AreHosts, IsPlayedBy, told_at};
 ghost use Rattle.world_core.specs.declared.settings.BadField.{BadField as Bad};
 ghost use Rattle.world_core.specs.declared.world.NewFault.TheVariants.{BadSetup};
@@ -16,7 +17,7 @@ ghost use Rattle.world_core.specs.declared.world.NewFault.TheVariants.{BadSetup}
 use crate::calls::{due_bytes, read, write};
 use crate::handshake::{open, take, would_take};
 use crate::host::Host;
-use crate::link::{can_complete, can_land, complete, deliver};
+use crate::link::{complete, deliver};
 use crate::moment::Moment;
 use crate::settings::{BadField, Field, bad_field};
 use arrayvec::ArrayVec;
@@ -242,8 +243,7 @@ impl World {
         requires fits { Fits self.old.setup (length self.old.payload) event }
         ensures reply { result ≡ step_answer event self.old }
         ensures world { self.new ≡ after_step actor event self.old }
-        ensures lawful { IfOk result (λ reply. IsStep self.old.setup self.old.payload (past self.old) self.old.heard
-            (entry_of self.old.setup self.old.payload (past self.old) (length self.old.heard) actor event) self.new.heard) }
+        ensures lawful { IfOk result (λ reply. IsLawfulStep actor event self.old self.new) }
     {
         match self.refusal(event) {
             Some(fault) => Err(fault),
@@ -257,8 +257,7 @@ impl World {
         requires room { refusal self.old event ≡ None }
         ensures reply { result ≡ reply_to self.old event }
         ensures world { self.new ≡ stepped actor event self.old }
-        ensures lawful { IsStep self.old.setup self.old.payload (past self.old) self.old.heard
-            (entry_of self.old.setup self.old.payload (past self.old) (length self.old.heard) actor event) self.new.heard }
+        ensures lawful { IsLawfulStep actor event self.old self.new }
     {
         let mut posts = ArrayVec::new();
         let moment = Moment {
@@ -305,26 +304,25 @@ impl World {
         ensures first { result ≡ find (λ event. does_something (told_by self.now event)) (flat_map slot_events (up_to self.now.setup.links)) }
         ensures fits { IfSome result (Fits self.now.setup (length self.now.payload)) }
     {
-        let moment = self.moment();
-        if can_land(&self.a, &self.b, moment, Side::A) {
+        if self.a.wire.can_land() {
             return Some(Event::Deliver {
                 slot: 1,
                 dir: Side::A,
             });
         }
-        if can_land(&self.b, &self.a, moment, Side::B) {
+        if self.b.wire.can_land() {
             return Some(Event::Deliver {
                 slot: 1,
                 dir: Side::B,
             });
         }
-        if can_complete(&self.a, &self.b, moment, Side::A) {
+        if self.a.wire.can_complete() {
             return Some(Event::Complete {
                 slot: 1,
                 dir: Side::A,
             });
         }
-        if can_complete(&self.b, &self.a, moment, Side::B) {
+        if self.b.wire.can_complete() {
             return Some(Event::Complete {
                 slot: 1,
                 dir: Side::B,
@@ -361,20 +359,31 @@ impl World {
         ensures first { result ≡ find (λ event. does_something (told_by self.now event)) (socket_events s) }
         ensures fits { IfSome result (Fits self.now.setup (length self.now.payload)) }
     {
-        let moment = self.moment();
-        if would_take(&self.b, &self.a, moment, s, Side::A) {
+        if self.would_take(s, Side::A) {
             return Some(Event::Clc { s, dir: Side::A });
         }
-        if would_take(&self.a, &self.b, moment, s, Side::B) {
+        if self.would_take(s, Side::B) {
             return Some(Event::Clc { s, dir: Side::B });
         }
         None
+    }
+
+    /// Whether the next CLC message of a side on a socket would be taken by its peer.
+    fn would_take(&self, s: u32, dir: Side) -> bool
+        requires { s < self.now.setup.sockets }
+        ensures { result ≡ does_something (told_by self.now (Clc s dir)) }
+    {
+        match dir {
+            Side::A => would_take(&self.b, &self.a, s),
+            Side::B => would_take(&self.a, &self.b, s),
+        }
     }
 
     /// The step of [`World::next`], or nothing where that is none.
     pub fn pump(&mut self, actor: u32) -> Result<Option<Reply>, StepFault>
         ensures reply { result ≡ pump_answer self.old }
         ensures world { self.new ≡ after_pump actor self.old }
+        ensures lawful { IfOk result (λ told. IfSome told (λ reply. IfSome (next_event self.old) (λ event. IsLawfulStep actor event self.old self.new))) }
     {
         match self.next() {
             None => Ok(None),
@@ -407,130 +416,5 @@ impl World {
         ensures { result.now ≡ self.now.payload }
     {
         self.payload.as_slice()
-    }
-}
-
-#[cfg(test)]
-mod tests {
-    use super::*;
-    use pipe_model::{End, PostRef, SentKind};
-    use std::test::Fail;
-
-    const A: End = End {
-        side: Side::A,
-        s: 0,
-    };
-
-    const B: End = End {
-        side: Side::B,
-        s: 0,
-    };
-
-    /// Two bytes go from A to B: the opening by its six entries, a write, its two posts, a read.
-    const CROSSING: [(Event, Reply); 10] = [
-        (Event::Open(0), Reply::Opened),
-        (
-            Event::Clc { s: 0, dir: Side::A },
-            Reply::Sent(SentKind::Accept),
-        ),
-        (
-            Event::Clc { s: 0, dir: Side::B },
-            Reply::Sent(SentKind::Confirm),
-        ),
-        (
-            Event::Clc { s: 0, dir: Side::A },
-            Reply::Sent(SentKind::ConfirmLink),
-        ),
-        (
-            Event::Deliver {
-                slot: 1,
-                dir: Side::B,
-            },
-            Reply::Landed(PostRef { entry: 4, post: 1 }),
-        ),
-        (
-            Event::Deliver {
-                slot: 1,
-                dir: Side::A,
-            },
-            Reply::Landed(PostRef { entry: 5, post: 1 }),
-        ),
-        (
-            Event::Write {
-                end: A,
-                at: 0,
-                len: 2,
-            },
-            Reply::Wrote(2),
-        ),
-        (
-            Event::Deliver {
-                slot: 1,
-                dir: Side::A,
-            },
-            Reply::Landed(PostRef { entry: 7, post: 1 }),
-        ),
-        (
-            Event::Deliver {
-                slot: 1,
-                dir: Side::A,
-            },
-            Reply::Landed(PostRef { entry: 7, post: 2 }),
-        ),
-        (
-            Event::Read { end: B, len: 9 },
-            Reply::Bytes { from: 0, len: 2 },
-        ),
-    ];
-
-    /// Two bytes cross, and pumps move the rest: each call once.
-    #[test]
-    fn two_bytes_cross(rt: HostRuntime) -> Result<(), Fail> {
-        let payload = vec![in rt.alloc(); 104, 105]?;
-        let Ok(mut world) = World::new(rt.alloc(), &Setup::default(), payload, Room::default())
-        else {
-            return Err(Fail::new("no world"));
-        };
-        assert_eq!(rt; world.next(), None);
-        for (event, reply) in CROSSING {
-            assert!(rt; world.fits(&event));
-            assert_eq!(rt; world.step(0, event), Ok(reply));
-        }
-        assert!(rt; world.heard() == world.payload());
-        let completes = Event::Complete {
-            slot: 1,
-            dir: Side::A,
-        };
-        assert!(rt; !world.fits(&Event::Cut(1)));
-        assert_eq!(rt;
-            world.pump(0),
-            Ok(Some(Reply::Landed(PostRef { entry: 10, post: 1 })))
-        );
-        assert_eq!(rt; world.next(), Some(completes));
-        assert_eq!(rt;
-            world.pump(0),
-            Ok(Some(Reply::Completed(PostRef { entry: 7, post: 1 })))
-        );
-        assert_eq!(rt; world.history().len(), 12);
-        Ok(())
-    }
-
-    /// A setup of four links is refused, by that field.
-    #[test]
-    fn four_links_are_too_many(rt: HostRuntime) -> Result<(), Fail> {
-        let setup = Setup {
-            links: 4,
-            ..Setup::default()
-        };
-        let payload = vec![in rt.alloc(); 1]?;
-        let fault = World::new(rt.alloc(), &setup, payload, Room::default()).err();
-        assert_eq!(rt;
-            fault,
-            Some(NewFault::BadSetup {
-                field: Field::Links,
-                value: 4
-            })
-        );
-        Ok(())
     }
 }
