@@ -29,7 +29,7 @@ use Rattle.conn_end.specs.Batches.{message_of}
 use Rattle.conn_end.specs.Kept.{Kept}
 use Rattle.smc_num.specs.Names.{head}
 use Rattle.side_core.specs.declared.route.Route.{Route}
-use Rattle.side_core.specs.Records.{Connection, Records, Stands, StandsAt, AllStand, conn_at, has_token, holder, aimer}
+use Rattle.side_core.specs.Records.{Connection, Records, Stands, StandsAt, AllStand, IsSized, conn_at, has_token, holder, aimer}
 use Rattle.side_core.specs.Desk.{Desk, made_on, IsConfirmLink, IsPendingFor}
 use Rattle.side_core.specs.Manager.{Manager, StandsFor, no_hand, state_at}
 use Rattle.side_core.specs.Taking.{IsOffer, MayHear, MayLend, MayTake}
@@ -197,10 +197,6 @@ holders_same token r p all = alike_position (has_token token) (has_token token) 
 the_same : (s t : ℕ) → Some s ≡ Some t → s ≡ t
 the_same s t e = ap (λ q. unwrap_or q s) e
 
--- that all ends of a manager are made for elements of its size
-abbrev pub AreSized : Manager Kept → Type 0
-AreSized v = (s : ℕ) (k : Connection Kept) → conn_at s v.records ≡ Some k → k.end.size ≡ v.records.terms.size
-
 -- that a message which spells what was sent may land at the end of a socket, which its token names
 pub record Comes (s : ℕ) (message : CdcMessage) (sent : Sent) (c : Connection Half) (m : Manager Half) : Type 0 where
   pub there : conn_at s m.records ≡ Some c
@@ -210,9 +206,9 @@ pub record Comes (s : ℕ) (message : CdcMessage) (sent : Sent) (c : Connection 
   pub going : is_over c.end ≡ false
   pub sound : IsSoundPlain m.records.terms.size (conn_at s m.records)
 
-module _ (s : ℕ) (message : CdcMessage) (sent : Sent) (c : Connection Half) (v : Manager Kept) (m : Manager Half) (stands : StandsFor v m) (sized : AreSized v) where
+module _ (s : ℕ) (message : CdcMessage) (sent : Sent) (c : Connection Half) (v : Manager Kept) (m : Manager Half) (stands : StandsFor v m) where
   size_is : (k : Connection Kept) → conn_at s v.records ≡ Some k → m.records.terms.size ≡ k.end.size
-  size_is k e = let w = stands.works in let r = w.records in sym (sized s k e ∙ ap (λ (t : Terms). t.size) r.terms)
+  size_is k e = let w = stands.works in let r = w.records in sym (subst (IsSized v.records.terms.size) e (r.sizes s) ∙ ap (λ (t : Terms). t.size) r.terms)
 
   module _ (comes : Comes s message sent c m) where
     held : holder message.token v.records ≡ Some s
@@ -255,13 +251,13 @@ pub record Goes (s : ℕ) (message : CdcMessage) (sent : Sent) (c : Connection H
   pub oldest : head c.end.flight ≡ Some sent.snapshot
   pub sound : IsSoundPlain m.records.terms.size (conn_at s m.records)
 
-module _ (s : ℕ) (message : CdcMessage) (sent : Sent) (c : Connection Half) (v : Manager Kept) (m : Manager Half) (stands : StandsFor v m) (sized : AreSized v) (goes : Goes s message sent c m) where
+module _ (s : ℕ) (message : CdcMessage) (sent : Sent) (c : Connection Half) (v : Manager Kept) (m : Manager Half) (stands : StandsFor v m) (goes : Goes s message sent c m) where
   aimed : aimer message.token v.records ≡ Some s
   aimed = let w = stands.works in aimers_same message.token v.records m.records w.records ∙ goes.aimed
 
   completed : (b : Beside (conn_at s v.records) c) → Completes b.kept.end message sent.snapshot c.end sent
   completed b =
-      let size = size_is s message sent c v m stands sized b.kept b.kept_is in
+      let size = size_is s message sent c v m stands b.kept b.kept_is in
       let st = b.stands in
       record {
         stands = st.end;

@@ -14,7 +14,7 @@ use Rattle.side_core.specs.Manager.{Manager, StandsFor, state_at}
 use Rattle.side_core.specs.Acting.{IsSoundAt, MayWrite, acts_at, bytes_land, call_of}
 use Rattle.side_core.specs.Landing.{LandsIn, MayLandIn, CompletesIn, MayCompleteIn, MayGoOut}
 use Rattle.side_core.specs.FirstRow.{first_link, b_offer, a_told, a_sent, b_told, b_sent, a_linked, a_wrote, a_heard, b_linked, b_landed, b_heard, b_read}
-use Rattle.side_core.proofs.Carries.{AreSized, IsSoundHalf, Comes, Goes, Keeps, sound_kept, state_kept, write_kept, lands_in, may_land, completes_in, may_complete, going_at, goes_out}
+use Rattle.side_core.proofs.Carries.{IsSoundHalf, Comes, Goes, Keeps, sound_kept, state_kept, write_kept, lands_in, may_land, completes_in, may_complete, going_at, goes_out}
 
 -- the connection of the one socket
 abbrev conn_of : Manager Half → Connection Half
@@ -59,11 +59,11 @@ written = spelled 16384 1 a_told
 written_comes : Comes 0 written a_sent (conn_of b_landed) b_landed
 written_comes = record { there = refl; held = refl; spelled = refl; taken = record { number_rises = omega arith; reads_on = omega arith; reads_accepted = omega arith; fits = omega arith; tells_on = inr (omega arith); tells_near = omega arith }; going = refl; sound = record { out_few = omega arith; number_few = omega arith; fits = omega arith } }
 
-pub may_hear_written : (v : Manager Kept) → StandsFor v b_landed → AreSized v → MayLandIn written a_told v
-may_hear_written v st sized = may_land 0 written a_sent (conn_of b_landed) v b_landed st sized written_comes
+pub may_hear_written : (v : Manager Kept) → StandsFor v b_landed → MayLandIn written a_told v
+may_hear_written v st = may_land 0 written a_sent (conn_of b_landed) v b_landed st written_comes
 
-pub hears_written : (v : Manager Kept) → StandsFor v b_landed → AreSized v → LandsIn 0 written a_told a_sent v b_landed
-hears_written v st sized = lands_in 0 written a_sent (conn_of b_landed) v b_landed st sized written_comes
+pub hears_written : (v : Manager Kept) → StandsFor v b_landed → LandsIn 0 written a_told a_sent v b_landed
+hears_written v st = lands_in 0 written a_sent (conn_of b_landed) v b_landed st written_comes
 
 -- the read
 heard_sound : IsSoundHalf 16384 (conn_of b_heard).end
@@ -85,27 +85,27 @@ has_read = spelled 16384 1 b_told
 read_comes : Comes 0 has_read b_sent (conn_of a_wrote) a_wrote
 read_comes = record { there = refl; held = refl; spelled = refl; taken = record { number_rises = omega arith; reads_on = omega arith; reads_accepted = omega arith; fits = omega arith; tells_on = inr (omega arith); tells_near = omega arith }; going = refl; sound = record { out_few = omega arith; number_few = omega arith; fits = omega arith } }
 
-pub may_hear_read : (v : Manager Kept) → StandsFor v a_wrote → AreSized v → MayLandIn has_read b_told v
-may_hear_read v st sized = may_land 0 has_read b_sent (conn_of a_wrote) v a_wrote st sized read_comes
+pub may_hear_read : (v : Manager Kept) → StandsFor v a_wrote → MayLandIn has_read b_told v
+may_hear_read v st = may_land 0 has_read b_sent (conn_of a_wrote) v a_wrote st read_comes
 
-pub hears_read : (v : Manager Kept) → StandsFor v a_wrote → AreSized v → LandsIn 0 has_read b_told b_sent v a_wrote
-hears_read v st sized = lands_in 0 has_read b_sent (conn_of a_wrote) v a_wrote st sized read_comes
+pub hears_read : (v : Manager Kept) → StandsFor v a_wrote → LandsIn 0 has_read b_told b_sent v a_wrote
+hears_read v st = lands_in 0 has_read b_sent (conn_of a_wrote) v a_wrote st read_comes
 
 -- both complete
 written_goes : Goes 0 written a_sent (conn_of a_heard) a_heard
 written_goes = record { there = refl; aimed = refl; spelled = refl; oldest = refl; sound = record { out_few = omega arith; number_few = omega arith; fits = omega arith } }
 
-pub may_complete_written : (v : Manager Kept) → StandsFor v a_heard → AreSized v → MayCompleteIn written a_told v
-may_complete_written v st sized = may_complete 0 written a_sent (conn_of a_heard) v a_heard st sized written_goes
+pub may_complete_written : (v : Manager Kept) → StandsFor v a_heard → MayCompleteIn written a_told v
+may_complete_written v st = may_complete 0 written a_sent (conn_of a_heard) v a_heard st written_goes
 
-pub completes_written : (v : Manager Kept) → StandsFor v a_heard → AreSized v → CompletesIn 0 written a_told a_sent v a_heard
-completes_written v st sized = completes_in 0 written a_sent (conn_of a_heard) v a_heard st sized written_goes
+pub completes_written : (v : Manager Kept) → StandsFor v a_heard → CompletesIn 0 written a_told a_sent v a_heard
+completes_written v st = completes_in 0 written a_sent (conn_of a_heard) v a_heard st written_goes
 
 read_goes : Goes 0 has_read b_sent (conn_of b_read) b_read
 read_goes = record { there = refl; aimed = refl; spelled = refl; oldest = refl; sound = record { out_few = omega arith; number_few = omega arith; fits = omega arith } }
 
-pub may_complete_read : (v : Manager Kept) → StandsFor v b_read → AreSized v → MayCompleteIn has_read b_told v
-may_complete_read v st sized = may_complete 0 has_read b_sent (conn_of b_read) v b_read st sized read_goes
+pub may_complete_read : (v : Manager Kept) → StandsFor v b_read → MayCompleteIn has_read b_told v
+may_complete_read v st = may_complete 0 has_read b_sent (conn_of b_read) v b_read st read_goes
 
-pub completes_read : (v : Manager Kept) → StandsFor v b_read → AreSized v → CompletesIn 0 has_read b_told b_sent v b_read
-completes_read v st sized = completes_in 0 has_read b_sent (conn_of b_read) v b_read st sized read_goes
+pub completes_read : (v : Manager Kept) → StandsFor v b_read → CompletesIn 0 has_read b_told b_sent v b_read
+completes_read v st = completes_in 0 has_read b_sent (conn_of b_read) v b_read st read_goes

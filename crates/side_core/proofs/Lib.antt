@@ -26,7 +26,6 @@ pub mod Offering
 pub mod OneRmb
 pub mod Seats
 pub mod Shelving
-pub mod Sizes
 pub mod Standing
 pub mod Steps
 pub mod Tables

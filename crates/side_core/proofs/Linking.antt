@@ -91,6 +91,7 @@ lives_works link d r m slot one latest pending works = record {
     spare = works.records.spare;
     sockets = works.records.sockets ∙ sym (length-map m.records.by_socket _);
     each = λ t. subst (λ o. StandsAt (conn_at t r) o) (sym (heard_conn _ m.records.by_socket t)) (stands_heard link (conn_at t r) (conn_at t m.records) (works.records.each t));
+    sizes = works.records.sizes;
   };
   tied = λ t. subst (λ o. IsTiedAt (set_phase link.slot LiveLink m.desk.links.known) o) (sym (heard_conn _ m.records.by_socket t))
       (subst (λ n. IsTiedAt (set_phase n LiveLink m.desk.links.known) (option_map (λ (x : Connection Half). let y : Connection Half = record x { end = meets_fate link LiveLink x.end } in y) (conn_at t m.records))) (sym slot)

@@ -8,13 +8,14 @@ use Rattle.pipe_model.specs.Ends.{Half, fresh, settle, comes_up}
 use Rattle.pipe_model.specs.declared.post.Post.{Post}
 use Rattle.conn_end.specs.Kept.{Kept, StandsFor}
 use Rattle.side_core.specs.declared.route.Way.{Way}
-use Rattle.side_core.specs.Records.{Connection, Records, AllStand, Stands, StandsAt, conn_at, half_at, changes, settles, begins, new_route}
+use Rattle.side_core.specs.Records.{Connection, Records, AllStand, IsSized, Stands, StandsAt, conn_at, half_at, changes, settles, begins, leaves, new_route}
 use Rattle.side_core.specs.Inside.{IsMade}
 use Rattle.side_core.specs.Posting.{IsWay, IsOnWay, SameCourse, posts_at, due_posts}
 use Rattle.side_core.proofs.Keeping.{IsAlike, settle_up, settle_link}
 use Rattle.side_core.proofs.Acting.{acted_stands}
 use Rattle.smc_num.specs.declared.LinkId.{LinkId}
 use Rattle.element_ledger.specs.declared.Element.{Element}
+use Rattle.clc_wire.specs.declared.offer.Offer.{Offer}
 use Rattle.side_core.specs.declared.route.Route.{Route}
 use Rattle.conn_end.specs.Batches.{may_post}
 
@@ -26,6 +27,19 @@ each_set xs ys s x y each same within here t = elim (cases_eq t s) [
   | inr differs ↦ subst (λ a. StandsAt a (get_or (set ys s y) t None)) (sym (get_or-set_other xs s t x None differs))
       (subst (StandsAt (get_or xs t None)) (sym (get_or-set_other ys s t y None differs)) (each t))
 ]
+
+-- one place of a list becomes another one, whose end is made for elements of the same size
+sized_set : (size : ℕ) (xs : List (Option (Connection Kept))) (s : ℕ) (x : Option (Connection Kept)) → ((t : ℕ) → IsSized size (get_or xs t None)) → s < length xs → IsSized size x → (t : ℕ) → IsSized size (get_or (set xs s x) t None)
+sized_set size xs s x sizes within here t = elim (cases_eq t s) [
+  | inl is ↦ subst (IsSized size) (sym (ap (λ n. get_or (set xs s x) n None) is ∙ get_or-set_same xs s x None within)) here
+  | inr differs ↦ subst (IsSized size) (sym (get_or-set_other xs s t x None differs)) (sizes t)
+]
+
+-- and so in the records whose one socket is changed by that
+sizes_set : (v w : Records Kept) (s : ℕ) (x : Option (Connection Kept)) → ((t : ℕ) → IsSized v.terms.size (conn_at t v)) → w.terms ≡ v.terms → w.by_socket ≡ set v.by_socket s x → s < length v.by_socket → IsSized v.terms.size x → (t : ℕ) → IsSized w.terms.size (conn_at t w)
+sizes_set v w s x sizes terms by_socket within here t =
+    subst (λ (ts : Terms). IsSized ts.size (conn_at t w)) (sym terms)
+    (subst (λ xs. IsSized v.terms.size (get_or xs t None)) (sym by_socket) (sized_set v.terms.size v.by_socket s x sizes within here t))
 
 pub as_many : (xs : List (Option (Connection Kept))) (ys : List (Option (Connection Half))) (s : ℕ) (x : Option (Connection Kept)) (y : Option (Connection Half)) → length xs ≡ length ys → length (set xs s x) ≡ length (set ys s y)
 as_many xs ys s x y same = length-set xs s x ∙ same ∙ sym (length-set ys s y)
@@ -59,8 +73,8 @@ pub record IsWith (v : Records Kept) (s : ℕ) (x : Option (Connection Kept)) (w
   pub by_socket : w.by_socket ≡ set v.by_socket s x
 
 -- a connection is changed
-pub changed_stands : (v w : Records Kept) (r : Records Half) (s : ℕ) (old new : Connection Kept) (f : Connection Half → Connection Half) → AllStand v r → IsWith v s (Some new) w → conn_at s v ≡ Some old → (found : IsFound r s old) → Stands new (f found.conn) → AllStand w (changes s f r)
-changed_stands v w r s old new f all is_with is found stands = record {
+pub changed_stands : (v w : Records Kept) (r : Records Half) (s : ℕ) (old new : Connection Kept) (f : Connection Half → Connection Half) → AllStand v r → IsWith v s (Some new) w → conn_at s v ≡ Some old → new.end.size ≡ old.end.size → (found : IsFound r s old) → Stands new (f found.conn) → AllStand w (changes s f r)
+changed_stands v w r s old new f all is_with is size found stands = record {
   terms = is_with.terms ∙ all.terms;
   tokens = is_with.tokens ∙ all.tokens;
   spare = is_with.spare ∙ all.spare;
@@ -68,6 +82,7 @@ changed_stands v w r s old new f all is_with is found stands = record {
   each = λ t. subst (λ xs. StandsAt (get_or xs t None) (get_or (set r.by_socket s (option_map f (conn_at s r))) t None)) (sym is_with.by_socket)
       (each_set v.by_socket r.by_socket s (Some new) (option_map f (conn_at s r)) all.each all.sockets (there_within v.by_socket s old is)
       (subst (λ o. StandsAt (Some new) (option_map f o)) (sym found.is) stands) t);
+  sizes = sizes_set v w s (Some new) all.sizes is_with.terms is_with.by_socket (there_within v.by_socket s old is) (size ∙ subst (IsSized v.terms.size) is (all.sizes s));
 }
 
 -- what it posts
@@ -88,7 +103,7 @@ is_way act way r s c is way_is = subst (IsWay act way) is way_is
 -- something was done to the end of a socket, and what was due then was posted
 pub settles_at : (v w : Records Kept) (r : Records Half) (s : ℕ) (old new : Connection Kept) (act : Half → Half) → AllStand v r → IsWith v s (Some new) w → conn_at s v ≡ Some old → IsMade v.terms old.end → SameCourse old new → (found : IsFound r s old) → IsAlike found.conn.end (act found.conn.end) → StandsFor new.end (settle old.end.course.depth (act found.conn.end)) → AllStand w (settles s act r)
 settles_at v w r s old new act all is_with is made same found alike after =
-    changed_stands v w r s old new (λ c. record c { end = settle r.terms.depth (act c.end) }) all is_with is found
+    changed_stands v w r s old new (λ c. record c { end = settle r.terms.depth (act c.end) }) all is_with is same.terms.size found
     (acted_stands old new found.conn (act found.conn.end) r.terms.depth same found.stands alike after (made.depth ∙ ap (λ (t : Terms). t.depth) all.terms))
 
 -- on which way an end is then
@@ -107,19 +122,40 @@ risen_stands old new c depth same stands after is = record {
   end = subst (λ d. StandsFor new.end (settle d (comes_up c.route.link c.end))) is (subst (λ (q : Route). StandsFor new.end (settle old.end.course.depth (comes_up q.link c.end))) stands.route after);
 }
 
+-- one has learnt of its peer
+pub aimed_stands : (old : Connection Kept) (c : Connection Half) (o : Offer) (end : Kept) → end ≡ record old.end { token = o.token } → Stands old c → Stands (record { route = record old.route { peer = Some o }; end = end }) (record c { route = record c.route { peer = Some o } })
+aimed_stands old c o end is stands = subst (λ (e : Kept). Stands (record { route = record old.route { peer = Some o }; end = e }) (record c { route = record c.route { peer = Some o } })) (sym is) (record {
+  route = ap (λ (q : Route). let aimed : Route = record q { peer = Some o } in aimed) stands.route;
+  up = stands.up;
+  link = stands.link;
+  end = stands.end;
+})
+
+-- one has left
+pub left_stands : (v w : Records Kept) (r : Records Half) (s : ℕ) → AllStand v r → w.terms ≡ v.terms → w.tokens ≡ v.tokens → w.spare ≡ v.spare + 1 → w.by_socket ≡ set v.by_socket s None → s < length v.by_socket → AllStand w (leaves s r)
+left_stands v w r s all terms tokens spare by_socket within = record {
+  terms = terms ∙ all.terms;
+  tokens = tokens ∙ all.tokens;
+  spare = spare ∙ ap (λ n. n + 1) all.spare;
+  sockets = ap length by_socket ∙ as_many v.by_socket r.by_socket s None None all.sockets;
+  each = λ t. subst (λ xs. StandsAt (get_or xs t None) (get_or (set r.by_socket s None) t None)) (sym by_socket) (each_set v.by_socket r.by_socket s None None all.each all.sockets within tt t);
+  sizes = sizes_set v w s None all.sizes terms by_socket within tt;
+}
+
 -- one that has begun
 abbrev plain_begun : Records Half → LinkId → Element → List LinkId → Connection Half
 plain_begun r link element live = record { route = new_route link element (r.tokens + 1); end = record (fresh r.terms.number) { live = live } }
 
 -- one has begun
-pub begun_stands : (v w : Records Kept) (r : Records Half) (s : ℕ) (link : LinkId) (element : Element) (live : List LinkId) (k : Connection Kept) → AllStand v r → w.terms ≡ v.terms → w.tokens ≡ v.tokens + 1 → w.spare + 1 ≡ v.spare → w.by_socket ≡ set v.by_socket s (Some k) → s < length v.by_socket → k.route ≡ new_route link element (v.tokens + 1) → StandsFor k.end (fresh v.terms.number) → AllStand w (begins s link element live r)
-begun_stands v w r s link element live k all terms tokens spare by_socket within route end = record {
+pub begun_stands : (v w : Records Kept) (r : Records Half) (s : ℕ) (link : LinkId) (element : Element) (live : List LinkId) (k : Connection Kept) → AllStand v r → w.terms ≡ v.terms → w.tokens ≡ v.tokens + 1 → w.spare + 1 ≡ v.spare → w.by_socket ≡ set v.by_socket s (Some k) → s < length v.by_socket → k.route ≡ new_route link element (v.tokens + 1) → k.end.size ≡ v.terms.size → StandsFor k.end (fresh v.terms.number) → AllStand w (begins s link element live r)
+begun_stands v w r s link element live k all terms tokens spare by_socket within route size end = record {
   terms = terms ∙ all.terms;
   tokens = tokens ∙ ap (λ n. n + 1) all.tokens;
   spare = omega (arith, spare, all.spare);
   sockets = ap length by_socket ∙ as_many v.by_socket r.by_socket s (Some k) (Some (plain_begun r link element live)) all.sockets;
   each = λ t. subst (λ xs. StandsAt (get_or xs t None) (get_or (set r.by_socket s (Some (plain_begun r link element live))) t None)) (sym by_socket)
       (each_set v.by_socket r.by_socket s (Some k) (Some (plain_begun r link element live)) all.each all.sockets within stands t);
+  sizes = sizes_set v w s (Some k) all.sizes terms by_socket within size;
 }
   where
     stands : Stands k (plain_begun r link element live)

@@ -107,13 +107,19 @@ StandsAt None None = Unit {0}
 StandsAt (Some k) (Some c) = Stands k c
 StandsAt _ _ = ⊥
 
--- the records of a side stand for plain ones, socket by socket
+-- the end of what may be no connection is made for elements of this size
+abbrev pub IsSized : ℕ → Option (Connection Kept) → Type 0
+IsSized size None = Unit {0}
+IsSized size (Some k) = k.end.size ≡ size
+
+-- the records of a side stand for plain ones, socket by socket; each end is made for elements of the one size
 pub record AllStand (v : Records Kept) (r : Records Half) : Type 0 where
   pub terms : v.terms ≡ r.terms
   pub tokens : v.tokens ≡ r.tokens
   pub spare : v.spare ≡ r.spare
   pub sockets : length v.by_socket ≡ length r.by_socket
   pub each : (s : ℕ) → StandsAt (conn_at s v) (conn_at s r)
+  pub sizes : (s : ℕ) → IsSized v.terms.size (conn_at s v)
 
 -- the counts of an end are far from the end of a u64
 abbrev pub IsSmall : Option (Connection Kept) → Type 0

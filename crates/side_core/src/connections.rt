@@ -8,9 +8,8 @@ ghost use Rattle.smc_num.specs.Places.{rmb_at};
 ghost use Rattle.pipe_model.specs.declared.sent.Sent.{Sent};
 ghost use Rattle.pipe_model.specs.Ends.{Half, comes_up, takes, completes};
 ghost use Rattle.pipe_model.specs.Calls.{Writes, Reads, calls};
-ghost use Rattle.conn_end.specs.Kept.{Kept};
 ghost use Rattle.conn_end.specs.Told.{Answers};
-ghost use Rattle.side_core.specs.Records.{Connection, Records, AllStand, IsSmall, no_records, conn_at, half_at, route_at, link_at, holder, aimer, settles, begins, aims, rises, leaves};
+ghost use Rattle.side_core.specs.Records.{Records, AllStand, IsSmall, no_records, conn_at, half_at, route_at, link_at, holder, aimer, settles, begins, aims, rises, leaves};
 ghost use Rattle.side_core.specs.Inside.{IsMade, made_with, socket_named as named_by};
 ghost use Rattle.side_core.specs.Posting.{IsWay, posts_at};
 ghost use Rattle.side_core.specs.Comings.{MayArriveAt, ArrivesAt, MayCompleteAt, CompletesAt, MayGo, IsGoingAt};
@@ -89,14 +88,6 @@ impl Connections {
             by_peer,
             idle,
         })
-    }
-
-    /// How many bytes an element of the peer has. Every end is made for that.
-    pub fn element_size(&self) -> u32
-        ensures size { result ≡ self.now.terms.size }
-        ensures made { (s : ℕ) (k : Connection Kept) → conn_at s self.now ≡ Some k → k.end.size ≡ self.now.terms.size }
-    {
-        self.size
     }
 
     /// How many tokens this side has given.

@@ -19,14 +19,13 @@ ghost use Rattle.pipe_model.specs.Flows.{flow_step};
 ghost use Rattle.pipe_model.specs.Handshake.{verdict};
 ghost use Rattle.pipe_model.specs.Messages.{confirm_link};
 ghost use Rattle.pipe_model.specs.Replies.{expects};
-ghost use Rattle.conn_end.specs.Kept.{Kept};
 ghost use Rattle.conn_end.specs.Told.{Answers, told_of};
 ghost use Rattle.side_core.specs.Acting.{IsSoundAt, MayConfirm, MayHand, MayRise, hands_after, posts_after, reply_of_desk, rises_first, MayWrite, acts_at, buffer_of, bytes_land, call_of, confirm_reply, confirming_posts, confirms_link, due_at, handed_from, handed_out, risen_at, way_of};
 ghost use Rattle.side_core.specs.Comings.{IsGoingAt};
 ghost use Rattle.side_core.specs.Desk.{makes_link, pair_at};
 ghost use Rattle.side_core.specs.Landing.{CanMake, CompletesIn, LandsIn, MayCompleteIn, MayGoOut, MayLandIn, dropped, falls_at, is_wait, opening_posts, opens_at, told_at};
 ghost use Rattle.side_core.specs.Manager.{Manager, StandsFor, Works, hand_in, hand_of, new_manager, no_hand, state_at};
-ghost use Rattle.side_core.specs.Records.{Connection, aimer, conn_at, half_at, holder, route_at};
+ghost use Rattle.side_core.specs.Records.{aimer, conn_at, half_at, holder, route_at};
 ghost use Rattle.side_core.specs.Setups.{IsSet};
 ghost use Rattle.side_core.specs.Taking.{MayTake, rises_at, takes_message, taking_posts, taking_told, verdict_at, with_desk};
 
@@ -147,14 +146,6 @@ impl SideCore {
             Some(Some(hand)) => hand.state(),
             _ => EndState::Absent,
         }
-    }
-
-    /// How many bytes an element of the peer has. Every end is made for that.
-    pub fn element_size(&self) -> u32
-        ensures size { result ≡ self.now.records.terms.size }
-        ensures made { (s : ℕ) (k : Connection Kept) → conn_at s self.now.records ≡ Some k → k.end.size ≡ self.now.records.terms.size }
-    {
-        self.connections.element_size()
     }
 
     /// The group that stands here, 0 for none.

@@ -277,12 +277,10 @@ fn land_bytes(rt: &impl Abort, a: &SideCore, b: &mut SideCore)
 }
 
 // The client's message lands at the server.
-fn hear_written(rt: &impl Abort, b: &mut SideCore) -> (Option<u32>, Posts)
+fn hear_written(b: &mut SideCore) -> (Option<u32>, Posts)
     requires { StandsFor b.old b_landed }
     ensures { StandsFor b.new b_heard }
 {
-    let size = b.element_size();
-    assert_eq!(rt; size, 16_384);
     let mut posts = Posts::new();
     let dropped = b.land_cdc(LINK, &WRITTEN, &WRITTEN_PLAIN, &mut posts);
     (dropped, posts)
@@ -300,36 +298,30 @@ fn read(b: &mut SideCore) -> (EndReply, [u8; 2], Posts)
 }
 
 // The server's message lands at the client.
-fn hear_read(rt: &impl Abort, a: &mut SideCore) -> (Option<u32>, Posts)
+fn hear_read(a: &mut SideCore) -> (Option<u32>, Posts)
     requires { StandsFor a.old a_wrote }
     ensures { StandsFor a.new a_heard }
 {
-    let size = a.element_size();
-    assert_eq!(rt; size, 16_384);
     let mut posts = Posts::new();
     let dropped = a.land_cdc(LINK, &READ, &READ_PLAIN, &mut posts);
     (dropped, posts)
 }
 
 // The client's message completes.
-fn complete_written(rt: &impl Abort, a: &mut SideCore) -> Posts
+fn complete_written(a: &mut SideCore) -> Posts
     requires { StandsFor a.old a_heard }
     ensures { StandsFor a.new a_done }
 {
-    let size = a.element_size();
-    assert_eq!(rt; size, 16_384);
     let mut posts = Posts::new();
     a.complete(LINK, &WRITTEN, &WRITTEN_PLAIN, &mut posts);
     posts
 }
 
 // The server's message completes.
-fn complete_read(rt: &impl Abort, b: &mut SideCore) -> Posts
+fn complete_read(b: &mut SideCore) -> Posts
     requires { StandsFor b.old b_read }
     ensures { StandsFor b.new b_done }
 {
-    let size = b.element_size();
-    assert_eq!(rt; size, 16_384);
     let mut posts = Posts::new();
     b.complete(LINK, &READ, &READ_PLAIN, &mut posts);
     posts
@@ -426,17 +418,17 @@ fn two_bytes_go_message_by_message(rt: HostRuntime) -> Result<(), NoMemory> {
     };
     assert!(rt; *posts.as_slice() == *[bytes, cdc(Side::A, WRITTEN)].as_slice());
     land_bytes(&rt, &a, &mut b);
-    let (dropped, posts) = hear_written(&rt, &mut b);
+    let (dropped, posts) = hear_written(&mut b);
     assert_eq!(rt; dropped, None);
     assert!(rt; posts.is_empty());
     let (reply, out, posts) = read(&mut b);
     assert_eq!(rt; reply, EndReply::Take { from: 0, len: 2 });
     assert_eq!(rt; out, BYTES);
     assert!(rt; *posts.as_slice() == *[cdc(Side::B, READ)].as_slice());
-    let (dropped, posts) = hear_read(&rt, &mut a);
+    let (dropped, posts) = hear_read(&mut a);
     assert_eq!(rt; dropped, None);
     assert!(rt; posts.is_empty());
-    assert!(rt; complete_written(&rt, &mut a).is_empty());
-    assert!(rt; complete_read(&rt, &mut b).is_empty());
+    assert!(rt; complete_written(&mut a).is_empty());
+    assert!(rt; complete_read(&mut b).is_empty());
     Ok(())
 }

@@ -3,7 +3,7 @@ use Rattle.side_core.proofs.FirstBytes.{may_complete_read, completes_read}
 use Rattle.side_core.proofs.tests.complete_read.Goals as goal
 
 pub complete-requires-clause-may : goal.complete-requires-clause-may
-complete-requires-clause-may g c = may_complete_read c.args.b.now c.requires c.element_size-size.ensures.made
+complete-requires-clause-may c = may_complete_read c.args.b.now c.requires
 
 pub returns : goal.returns
-returns g c = c.complete.ensures.side b_read 0 b_sent c.requires (completes_read c.args.b.now c.requires c.element_size-size.ensures.made)
+returns c = c.complete.ensures.side b_read 0 b_sent c.requires (completes_read c.args.b.now c.requires)

@@ -3,7 +3,7 @@ use Rattle.side_core.proofs.FirstBytes.{may_hear_written, hears_written}
 use Rattle.side_core.proofs.tests.hear_written.Goals as goal
 
 pub land_cdc-dropped-requires-clause-may : goal.land_cdc-dropped-requires-clause-may
-land_cdc-dropped-requires-clause-may g c = may_hear_written c.args.b.now c.requires c.element_size-size.ensures.made
+land_cdc-dropped-requires-clause-may c = may_hear_written c.args.b.now c.requires
 
 pub returns : goal.returns
-returns g c = c.land_cdc-dropped.ensures.side b_landed 0 a_sent c.requires (hears_written c.args.b.now c.requires c.element_size-size.ensures.made)
+returns c = c.land_cdc-dropped.ensures.side b_landed 0 a_sent c.requires (hears_written c.args.b.now c.requires)

@@ -49,4 +49,5 @@ returns-clause-begins c = λ r live.
     subst (λ (u : Records Kept). AllStand u r → AllStand w (begins c.args.s c.args.link c.args.element live r)) c.self.view_is
     (λ all. begun_stands v w r c.args.s c.args.link c.args.element live new all refl tokens (omega (arith, ap length split, length-append left (end ∷ []))) c.put.ensures.slots within
     (ap (new_route c.args.link c.args.element) token)
+    (c.start.ensures.new.size ∙ made.size)
     (subst (λ n. StandsFor c.start.new.self (fresh n)) made.first c.start.ensures.end))

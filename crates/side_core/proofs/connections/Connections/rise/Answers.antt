@@ -41,7 +41,7 @@ returns-clause-end c = λ r.
     let found : IsFound r c.args.s k = finds_plain v r c.args.s k all is in
     let h : Half = found.conn.end in
     let live : c.args.way.live ≡ may_post (comes_up (link_at c.args.s v) h) = is_way (comes_up (link_at c.args.s v)) c.args.way r c.args.s found.conn found.is may in
-    changed_stands v w r c.args.s k new (λ q. record q { route = record q.route { up = true }; end = settle r.terms.depth (comes_up q.route.link q.end) }) all (record { terms = refl; tokens = refl; spare = refl; by_socket = refl }) is found
+    changed_stands v w r c.args.s k new (λ q. record q { route = record q.route { up = true }; end = settle r.terms.depth (comes_up q.route.link q.end) }) all (record { terms = refl; tokens = refl; spare = refl; by_socket = refl }) is c.rise.ensures.same.terms.size found
     (risen_stands k new found.conn r.terms.depth c.rise.ensures.same found.stands
     (c.rise.ensures.end h found.stands.end (subst (λ l. c.args.way.live ≡ may_post (comes_up l h)) on live))
     (filed.made.depth ∙ ap (λ (t : Terms). t.depth) all.terms)))
