@@ -46,7 +46,7 @@ use Rattle.world_core.proofs.WiresAfter.{wire-theirs}
 use Rattle.world_core.proofs.MovedWires.{complete-own, complete-else, twice}
 use Rattle.world_core.proofs.CallEntries.{IsNothing}
 use Rattle.world_core.proofs.CompletionEntries.{completes-nothing, completes-write, completes-message}
-use Rattle.world_core.proofs.MessageEnds.{AreSized, completing as message-completing}
+use Rattle.world_core.proofs.MessageEnds.{completing as message-completing}
 use Rattle.world_core.proofs.OnWire.{no-completing, completing-is, next-completes, completes-late, never-clc}
 use Rattle.conn_end.specs.Kept.{Kept}
 use Rattle.pipe_model.specs.declared.sent.Sent.{Sent}
@@ -230,15 +230,15 @@ pub record IsMessageDone (at : Moment) (x : Side) (c : Carried) (m : CdcMessage)
   pub done : (regions : List Buffer) (actor : ℕ) → IsDone at.setup.now at.payload.now regions x s sent (entry_of at.setup.now at.payload.now (past_of at) at.heard actor (Complete 1 x)) (past_of at)
 
 module _ (at : Moment) (x : Side) (c : Carried) (h k : Host) (completed : HasCompleted at x c h k) (few : length at.history.now < 2 ^ 18) (from : Side) (link : LinkId) (m : CdcMessage) (is_cdc : c.post ≡ Cdc from link m) where
-  pub message-done : AreSized h.core → IsMessageDone at x c m h.core
-  message-done sized =
+  pub message-done : IsMessageDone at x c m h.core
+  message-done =
       let hosts = completed.hosts in
       let own = hosts.own in
       let set = hosts.set in
       let lendings = lent-now at x (with_wire completed.before h) k hosts few in
       let next = next-completes at.setup.now at.payload.now x (past_of at) completed.before own.wire c completed.first in
       let is = completing-is at.setup.now at.payload.now x (past_of at) completed.before own.wire c set.one at.heard hosts.played completed.first in
-      let d = message-completing at.setup.now at.payload.now set (past_of at) at.heard hosts.played x hosts.few lendings (buffer_of at.setup.now at.payload.now x (past_of at) ∷ []) h.core own.side sized
+      let d = message-completing at.setup.now at.payload.now set (past_of at) at.heard hosts.played x hosts.few lendings (buffer_of at.setup.now at.payload.now x (past_of at) ∷ []) h.core own.side
       completed.before own.wire c next.rest from link m next.carried_is is_cdc in
       record {
         s = d.s;

@@ -39,7 +39,7 @@ use Rattle.world_core.specs.Hosts.{IsPlayedBy, past_of, with_posts}
 use Rattle.world_core.proofs.WireEntries.{IsTaken}
 use Rattle.world_core.proofs.LinkEntries.{IsConfirmed}
 use Rattle.world_core.proofs.LandedEnds.{left-stands}
-use Rattle.world_core.proofs.MessageEnds.{AreSized, landing as message-landing}
+use Rattle.world_core.proofs.MessageEnds.{landing as message-landing}
 use Rattle.world_core.proofs.WriteEnds.{wire-posts, buffer-stays-cdc, buffer-stays-llc}
 use Rattle.world_core.proofs.ConfirmEnds.{confirmation}
 use Rattle.world_core.proofs.SoundEnds.{sound-at}
@@ -119,7 +119,7 @@ module _ (at : Moment) (x : Side) (c : Carried) (h k : Host) (landed : HasLanded
         sent-landing at x First k landed.hosts few v posts posts-now stands-now h.wire sent (Landed c.at) told_now left t.sender own_stands l entry number core_is wire_is flows_are
 
   -- a CDC message has landed
-  module _ (link : LinkId) (m : CdcMessage) (is_cdc : c.post ≡ Cdc x link m) (sized : AreSized k.core) where
+  module _ (link : LinkId) (m : CdcMessage) (is_cdc : c.post ≡ Cdc x link m) where
     pub record IsCdcTaken : Type 0 where
       pub s : ℕ
       pub sent : Sent
@@ -140,7 +140,7 @@ module _ (at : Moment) (x : Side) (c : Carried) (h k : Host) (landed : HasLanded
         let theirs = hosts.theirs in
         let next = next-lands at.setup.now at.payload.now x Past landed.before own.wire c landed.first in
         let lendings = lent-now at x First k hosts few in
-        let d = message-landing at.setup.now at.payload.now set Past at.heard hosts.played x hosts.few lendings TheirRegions k.core theirs.side sized landed.before own.wire c next.rest x link m next.carried_is is_cdc in
+        let d = message-landing at.setup.now at.payload.now set Past at.heard hosts.played x hosts.few lendings TheirRegions k.core theirs.side landed.before own.wire c next.rest x link m next.carried_is is_cdc in
         let told = message-told at.setup.now set.one at.payload.now Past at.heard hosts.played lendings OwnRegions x 0 (placed c) next-is (map placed next.rest) x link m next.queue_is is_cdc in
         let is : (regions : List Buffer) (actor : ℕ) → IsTaken at.setup.now at.payload.now regions x d.s d.sent (After actor) Past = λ regions actor.
         lands-message at.setup.now set.one at.payload.now Past at.heard hosts.played lendings regions x actor (placed c) next-is (map placed next.rest) x link m next.queue_is is_cdc d.s d.sent d.message d.next in

@@ -29,7 +29,7 @@ use Rattle.rc_link.specs.declared.Carried.{Carried}
 use Rattle.rc_link.specs.Wire.{Queues, placed}
 use Rattle.conn_end.specs.Kept.{Kept}
 use Rattle.conn_end.specs.Arrivals.{IsSpelling, Completes}
-use Rattle.side_core.specs.Records.{Connection, conn_at, holder, aimer}
+use Rattle.side_core.specs.Records.{Connection, IsSized, conn_at, holder, aimer}
 use Rattle.side_core.specs.Manager.{Manager, StandsFor}
 use Rattle.side_core.specs.Acting.{IsSoundAt}
 use Rattle.side_core.specs.Comings.{Arrives, MayArriveAt, ArrivesAt, MayCompleteAt, CompletesAt}
@@ -154,10 +154,6 @@ module _ (s : ℕ) (m : CdcMessage) (plain : Snapshot) (sent : Sent) (v : Manage
     sound = λ t f. sound t;
   }
 
--- that all ends of a manager are made for elements of its size
-abbrev pub AreSized : Manager Kept → Type 0
-AreSized v = (s : ℕ) (k : Connection Kept) → conn_at s v.records ≡ Some k → k.end.size ≡ v.records.terms.size
-
 module _ (setup : Setup) (payload : List ℕ) (set : IsWorldSet setup payload) (past : List Entry) (n : ℕ) (p : IsPlayed setup payload past n) (x : Side) where
   abbrev Queue : Type 0
   Queue = List Placed
@@ -190,7 +186,7 @@ module _ (setup : Setup) (payload : List ℕ) (set : IsWorldSet setup payload) (
 
   module _ (few : length past ≤ 2 ^ 18) (lendings_are : HasLendings setup payload past) (regions : List Buffer) where
     -- what completes at its sender
-    module _ (v : Manager Kept) (st : StandsFor v (manager_of setup payload regions x past)) (sized : AreSized v) where
+    module _ (v : Manager Kept) (st : StandsFor v (manager_of setup payload regions x past)) where
       pub record Completing (m : CdcMessage) (plain : Snapshot) (at : PostRef) : Type 0 where
         pub s : ℕ
         pub sent : Sent
@@ -227,7 +223,7 @@ module _ (setup : Setup) (payload : List ℕ) (set : IsWorldSet setup payload) (
           aimed = ap (λ t. aimer t v.records) (sp.token ∙ same-offer (offered (other x) sp.s past) sp.offer u.theirs sp.offered_is u.theirs_is) ∙ u.aimed
 
           size : Kept-of.end.size ≡ element_size setup
-          size = let w = st.works in let r = w.records in sized sp.s Kept-of kept-is ∙ ap (λ t. t.size) r.terms
+          size = let w = st.works in let r = w.records in subst (IsSized v.records.terms.size) kept-is (r.sizes sp.s) ∙ ap (λ t. t.size) r.terms
 
           done : Completes Kept-of.end m c.plain (end_of setup payload x sp.s past) sp.sent
           done = let k = u.kept in let stands = k.stands in let open_sent = sp.open_sent in let can = pipe.can_be in record {
@@ -257,7 +253,7 @@ module _ (setup : Setup) (payload : List ℕ) (set : IsWorldSet setup payload) (
               (has-pipe setup payload sp.s past n p (shaken setup set.one payload past n p))
 
     -- what lands at the peer
-    module _ (v : Manager Kept) (st : StandsFor v (manager_of setup payload regions (other x) past)) (sized : AreSized v) where
+    module _ (v : Manager Kept) (st : StandsFor v (manager_of setup payload regions (other x) past)) where
       pub record Landing (m : CdcMessage) (plain : Snapshot) (at : PostRef) : Type 0 where
         pub s : ℕ
         pub sent : Sent
@@ -292,7 +288,7 @@ module _ (setup : Setup) (payload : List ℕ) (set : IsWorldSet setup payload) (
           held = ap (λ t. holder t v.records) sp.token ∙ holder-is setup payload regions (other x) past v st set.one n p lendings_are sp.s sp.offer sp.offered_is keeps
 
           size : kept.kept.end.size ≡ element_size setup
-          size = let w = st.works in let r = w.records in sized sp.s kept.kept kept.kept_is ∙ ap (λ t. t.size) r.terms
+          size = let w = st.works in let r = w.records in subst (IsSized v.records.terms.size) kept.kept_is (r.sizes sp.s) ∙ ap (λ t. t.size) r.terms
 
           comes : Arrives kept.kept.end m c.plain Taker sp.sent
           comes = let stands = kept.stands in let open_sent = sp.open_sent in let can = pipe.can_be in record {

@@ -113,9 +113,6 @@ fn land_cdc(
     requires none { posts.old.items ≡ [] }
     ensures { IsPlayedBy moment.entry (Deliver 1 dir) result posts.new.items dir own.now theirs.new }
 {
-    // All ends are made for elements of one size.
-    // That a side's ends are made for its elements is known where their size is asked for.
-    let _size = theirs.core.element_size();
     let dropped = theirs.core.land_cdc(link, message, &landed.plain, posts);
     theirs.send(moment.history.len() as u32 + 1, posts.as_slice());
     match dropped {
@@ -192,9 +189,6 @@ fn finish(
     ensures { IsPlayedBy moment.entry (Complete 1 dir) (Completed done.at) posts.new.items dir own.new theirs.now }
 {
     if let Post::Cdc { link, message, .. } = done.post {
-        // All ends are made for elements of one size.
-        // That a side's ends are made for its elements is known where their size is asked for.
-        let _size = own.core.element_size();
         own.core.complete(link, &message, &done.plain, posts);
         own.send(moment.history.len() as u32 + 1, posts.as_slice());
     }

@@ -8,37 +8,33 @@ use Rattle.world_core.proofs.link.finish.Goals as goal
 
 pub complete-requires-clause-may : goal.complete-requires-clause-may
 complete-requires-clause-may c =
-    let sized = c.element_size-size.ensures in
-    let d = message-done c.args.moment c.args.dir c.args.done c.args.own.now c.args.theirs.now c.requires.completed c.requires.few c.in-Cdc.from c.in-Cdc.link c.in-Cdc.message c.in-Cdc.is sized.made in
+    let d = message-done c.args.moment c.args.dir c.args.done c.args.own.now c.args.theirs.now c.requires.completed c.requires.few c.in-Cdc.from c.in-Cdc.link c.in-Cdc.message c.in-Cdc.is in
     d.may
 
 pub send-requires-clause-may : goal.send-requires-clause-may
 send-requires-clause-may c =
-    let sized = c.element_size-size.ensures in
     let did = c.complete.ensures in
     let slice = c.as_slice.ensures in
-    let d = message-done c.args.moment c.args.dir c.args.done c.args.own.now c.args.theirs.now c.requires.completed c.requires.few c.in-Cdc.from c.in-Cdc.link c.in-Cdc.message c.in-Cdc.is sized.made in
+    let d = message-done c.args.moment c.args.dir c.args.done c.args.own.now c.args.theirs.now c.requires.completed c.requires.few c.in-Cdc.from c.in-Cdc.link c.in-Cdc.message c.in-Cdc.is in
     subst (λ (ps : List Post). MaySendAll (length c.args.own.now.flows.items) c.complete.new.self ps) (sym slice.value)
     (may-be-sent c.args.moment c.args.dir c.args.done c.args.own.now c.args.theirs.now c.requires.completed c.requires.few c.in-Cdc.from c.in-Cdc.link c.in-Cdc.message c.in-Cdc.is d
     c.complete.new.self c.args.posts.now.items c.complete.new.posts.items c.requires.none did.side did.posts)
 
 pub send-requires-clause-room : goal.send-requires-clause-room
 send-requires-clause-room c =
-    let sized = c.element_size-size.ensures in
     let did = c.complete.ensures in
     let slice = c.as_slice.ensures in
-    let d = message-done c.args.moment c.args.dir c.args.done c.args.own.now c.args.theirs.now c.requires.completed c.requires.few c.in-Cdc.from c.in-Cdc.link c.in-Cdc.message c.in-Cdc.is sized.made in
+    let d = message-done c.args.moment c.args.dir c.args.done c.args.own.now c.args.theirs.now c.requires.completed c.requires.few c.in-Cdc.from c.in-Cdc.link c.in-Cdc.message c.in-Cdc.is in
     subst (λ (ps : List Post). length (filter goes_on_wire ps) ≤ room_of c.args.own.now.wire) (sym slice.value)
     (has-room c.args.moment c.args.dir c.args.done c.args.own.now c.args.theirs.now c.requires.completed c.requires.few c.in-Cdc.from c.in-Cdc.link c.in-Cdc.message c.in-Cdc.is d
     c.complete.new.self c.args.posts.now.items c.complete.new.posts.items c.requires.none did.side did.posts)
 
 pub returns-in-Cdc : goal.returns-in-Cdc
 returns-in-Cdc c =
-    let sized = c.element_size-size.ensures in
     let did = c.complete.ensures in
     let slice = c.as_slice.ensures in
     let sent = c.send.ensures in
-    let d = message-done c.args.moment c.args.dir c.args.done c.args.own.now c.args.theirs.now c.requires.completed c.requires.few c.in-Cdc.from c.in-Cdc.link c.in-Cdc.message c.in-Cdc.is sized.made in
+    let d = message-done c.args.moment c.args.dir c.args.done c.args.own.now c.args.theirs.now c.requires.completed c.requires.few c.in-Cdc.from c.in-Cdc.link c.in-Cdc.message c.in-Cdc.is in
     message-completes c.args.moment c.args.dir c.args.done c.args.own.now c.args.theirs.now c.requires.completed c.requires.few c.in-Cdc.from c.in-Cdc.link c.in-Cdc.message c.in-Cdc.is d
     c.complete.new.self c.args.posts.now.items c.complete.new.posts.items c.requires.none did.side did.posts c.send.new.self (length c.args.moment.history.now + 1) refl sent.core
     (λ n stands. sent.wire n stands ∙ ap (λ (ps : List Post). with_posts (carried_from n (length c.args.moment.history.now + 1) 1 ps) c.args.own.now.wire) slice.value)

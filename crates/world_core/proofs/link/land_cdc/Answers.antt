@@ -11,14 +11,12 @@ use Rattle.world_core.proofs.link.land_cdc.Goals as goal
 
 pub land_cdc-dropped-requires-clause-may : goal.land_cdc-dropped-requires-clause-may
 land_cdc-dropped-requires-clause-may c =
-    let sized = c.element_size-size.ensures in
-    let d = cdc-taken c.args.moment c.args.dir c.args.landed c.args.own.now c.args.theirs.now c.requires.landed c.requires.few c.args.link c.args.message.now c.requires.post sized.made in
+    let d = cdc-taken c.args.moment c.args.dir c.args.landed c.args.own.now c.args.theirs.now c.requires.landed c.requires.few c.args.link c.args.message.now c.requires.post in
     d.may
 
 pub send-requires-clause-may : goal.send-requires-clause-may
 send-requires-clause-may c =
-    let sized = c.element_size-size.ensures in
-    let d = cdc-taken c.args.moment c.args.dir c.args.landed c.args.own.now c.args.theirs.now c.requires.landed c.requires.few c.args.link c.args.message.now c.requires.post sized.made in
+    let d = cdc-taken c.args.moment c.args.dir c.args.landed c.args.own.now c.args.theirs.now c.requires.landed c.requires.few c.args.link c.args.message.now c.requires.post in
     let did = c.land_cdc-dropped.ensures in
     let slice = c.as_slice.ensures in
     let was = Their c.args.moment c.args.dir c.args.landed c.args.own.now c.args.theirs.now c.requires.landed c.requires.few in
@@ -30,8 +28,7 @@ send-requires-clause-may c =
 
 pub send-requires-clause-room : goal.send-requires-clause-room
 send-requires-clause-room c =
-    let sized = c.element_size-size.ensures in
-    let d = cdc-taken c.args.moment c.args.dir c.args.landed c.args.own.now c.args.theirs.now c.requires.landed c.requires.few c.args.link c.args.message.now c.requires.post sized.made in
+    let d = cdc-taken c.args.moment c.args.dir c.args.landed c.args.own.now c.args.theirs.now c.requires.landed c.requires.few c.args.link c.args.message.now c.requires.post in
     let did = c.land_cdc-dropped.ensures in
     let slice = c.as_slice.ensures in
     let was = Their c.args.moment c.args.dir c.args.landed c.args.own.now c.args.theirs.now c.requires.landed c.requires.few in
@@ -43,8 +40,7 @@ send-requires-clause-room c =
 
 pub returns-in-None : goal.returns-in-None
 returns-in-None c =
-    let sized = c.element_size-size.ensures in
-    let d = cdc-taken c.args.moment c.args.dir c.args.landed c.args.own.now c.args.theirs.now c.requires.landed c.requires.few c.args.link c.args.message.now c.requires.post sized.made in
+    let d = cdc-taken c.args.moment c.args.dir c.args.landed c.args.own.now c.args.theirs.now c.requires.landed c.requires.few c.args.link c.args.message.now c.requires.post in
     let did = c.land_cdc-dropped.ensures in
     let slice = c.as_slice.ensures in
     let was = Their c.args.moment c.args.dir c.args.landed c.args.own.now c.args.theirs.now c.requires.landed c.requires.few in
@@ -58,8 +54,7 @@ returns-in-None c =
 
 pub returns-in-Some : goal.returns-in-Some
 returns-in-Some c =
-    let sized = c.element_size-size.ensures in
-    let d = cdc-taken c.args.moment c.args.dir c.args.landed c.args.own.now c.args.theirs.now c.requires.landed c.requires.few c.args.link c.args.message.now c.requires.post sized.made in
+    let d = cdc-taken c.args.moment c.args.dir c.args.landed c.args.own.now c.args.theirs.now c.requires.landed c.requires.few c.args.link c.args.message.now c.requires.post in
     let did = c.land_cdc-dropped.ensures in
     let none = sym d.kept ∙ (sym did.told ∙ c.in-Some.is) in
     absurd cc
