@@ -45,6 +45,7 @@ left-stands s v m st =
           spare = records.spare;
           sockets = records.sockets ∙ sym (length-set r.by_socket s (option_map left (conn_at s r)));
           each = λ t. changed-at left r.by_socket s t (λ o. StandsAt (conn_at t v.records) o) (records.each t) (still-stands (conn_at t v.records) (conn_at t r) (records.each t));
+          sizes = records.sizes;
         };
         tied = λ t. changed-at left r.by_socket s t (λ o. IsTiedAt m.desk.links.known o) (works.tied t) (still-tied m.desk.links.known (conn_at t r) (works.tied t));
       };
