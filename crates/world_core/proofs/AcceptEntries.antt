@@ -179,9 +179,6 @@ module _ {s : ℕ} {first : Bool} {from to : Stage} (setup : Setup) (one : IsOne
         by true = refl
         by false = refl
 
-    abbrev done : Entry
-    done = accept_entry actor s o
-
     taken-now : IsTakenBy setup payload regions B s (ProposalMessage p) no_link (accept_entry actor s o) past
     taken-now =
         let i = is-offer in

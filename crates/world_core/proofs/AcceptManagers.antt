@@ -3,7 +3,7 @@
 use Rattle.world_core.proofs.OpenEnds.{never-over}
 use Rattle.std.specs.List.{cons_option}
 use Rattle.pipe_model.specs.Words.{rmbs_of, elements_of}
-use Rattle.std.proofs.Common.{◌≡◌, ◌∙◌, ℕ, ◌+◌, ◌-◌, ◌<◌, ◌==◌, ◌||◌, not, Bool, true, false, cond, if◌then◌else◌, List, [], ◌∷◌, ◌++◌, length, map, filter, refl, ap, sym, subst, ◌⊎◌, inl, inr, eq-eqb, eqb-true, arith, suc}
+use Rattle.std.proofs.Common.{◌≡◌, ◌∙◌, ℕ, ◌+◌, ◌-◌, ◌<◌, ◌==◌, ◌||◌, not, Bool, true, false, cond, if◌then◌else◌, List, [], ◌∷◌, ◌++◌, length, map, filter, refl, ap, sym, subst, eq-eqb, eqb-true, arith, suc}
 use Rattle.std.specs.Prelude.{Option, Some, None, option_map, unwrap_or, slice_set}
 use Rattle.std.specs.Option.{option_or}
 use Rattle.smc_num.specs.declared.Side.{Side}
@@ -77,12 +77,6 @@ known-live : {s : ℕ} {first : Bool} {from to : Stage} → Accepting s first fr
 known-live (begins_contact s) d e = refl
 known-live (joins_group s t) d e = e
 
-side-groups : {s : ℕ} {first : Bool} {from to : Stage} → Accepting s first from to → (y : Side) → ((peer y (fabric_at from)).group ≡ 0) ⊎ ((peer y (fabric_at to)).group ≡ (peer y (fabric_at from)).group)
-side-groups (begins_contact s) A = inl refl
-side-groups (begins_contact s) B = inl refl
-side-groups (joins_group s t) A = inr refl
-side-groups (joins_group s t) B = inr refl
-
 module _ {s : ℕ} {first : Bool} {from to : Stage} (setup : Setup) (payload : List ℕ) (regions : List Buffer) (past : List Entry) (c : Accepting s first from to) (actor : ℕ) (o : Offer) (is_first : o.first ≡ first)
     (was : IsAtStage setup from past) (now : IsAtStage setup to (accept_entry actor s o ∷ past)) (lendings_are : HasLendings setup payload past) (known : s < setup.sockets)
     (one : rmbs_of setup B ≡ 1) (free : head (free_places setup payload B past) ≡ Some (offered_place o)) (rmb : rmb_at o.address ≡ 1) (token : o.token ≡ length (lendings B past) + 1)
@@ -150,9 +144,6 @@ module _ {s : ℕ} {first : Bool} {from to : Stage} (setup : Setup) (payload : L
       by true = refl
       by false = refl
 
-  abbrev desk0 : Desk
-  desk0 = desk_of setup payload B past
-
   -- the desk before the element is lent
   abbrev desk1 : Desk
   desk1 = if first then begins_group s the_link 1 (desk_of setup payload B past) else desk_of setup payload B past
@@ -215,10 +206,6 @@ module _ {s : ℕ} {first : Bool} {from to : Stage} (setup : Setup) (payload : L
 
   offer-else : (t : ℕ) → (t == s) ≡ false → offered B t (e ∷ past) ≡ offered B t past
   offer-else t d = ap (λ b. option_or (head (cons_option (offered_if b the_link o) [])) (offered B t past)) d
-
-  -- the new connection
-  no-lending-before : lending_on s (lent setup payload B past) ≡ None
-  no-lending-before = lendings_are.each B s ∙ no-lending-due B s past none_b
 
   lending-here : lending_on s (lent setup payload B (e ∷ past)) ≡ Some l
   lending-here = ap (λ (ls : List Lending). lending_on s ls) lent-b ∙ ap (λ b. cond b (Some l) (lending_on s (lent setup payload B past))) (eq-eqb s s refl)

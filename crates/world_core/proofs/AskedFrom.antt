@@ -1,5 +1,5 @@
 -- What handshake and flows post with an event is at most one post, and it comes from the side that acts.
-use Rattle.std.proofs.Common.{◌≡◌, ◌∙◌, ◌⊎◌, inl, inr, ℕ, ◌<◌, ◌≤◌, ◌==◌, Bool, true, false, not, if◌then◌else◌, List, [], ◌∷◌, length, filter_map, refl, ap, sym, subst, ◌&&◌, true≢false, arith, eq-eqb}
+use Rattle.std.proofs.Common.{true≢false, ◌≡◌, ◌∙◌, ◌⊎◌, inl, inr, ℕ, ◌<◌, ◌≤◌, ◌==◌, Bool, true, false, not, if◌then◌else◌, List, [], ◌∷◌, length, filter_map, refl, ap, sym, subst, ◌&&◌, arith, eq-eqb}
 use Rattle.std.specs.Prelude.{Option, Some, None, is_some, option_map, unwrap_or}
 use Rattle.std.specs.List.{cons_option}
 use Rattle.smc_num.specs.declared.Side.{Side}
@@ -105,10 +105,6 @@ same-is A A e = refl
 same-is B B e = refl
 same-is A B e = absurd (true≢false (sym e))
 same-is B A e = absurd (true≢false (sym e))
-
-same-self : (x : Side) → same_side x x ≡ true
-same-self A = refl
-same-self B = refl
 
 twice : (x : Side) → x ≡ other (other x)
 twice A = refl

@@ -40,10 +40,6 @@ IsControl (Cdc from link m) = ⊥
 IsControl (WritePost from link key address len) = ⊥
 IsControl _ = Unit {0}
 
-append : (ps qs : List Post) → EachPost IsControl ps → EachPost IsControl qs → EachPost IsControl (ps ++ qs)
-append [] qs p q = q
-append (post ∷ ps) qs p q = (p.0, append ps qs p.1 q)
-
 either : (b : Bool) (ps qs : List Post) → EachPost IsControl ps → EachPost IsControl qs → EachPost IsControl (if b then ps else qs)
 either true ps qs p q = p
 either false ps qs p q = q

@@ -10,7 +10,7 @@ use Rattle.smc_num.specs.Names.{head, at_side}
 use Rattle.clc_wire.specs.declared.offer.Offer.{Offer}
 use Rattle.clc_wire.specs.declared.message.ClcMessage.{ClcMessage}
 use Rattle.clc_wire.specs.declared.message.ClcMessage.TheVariants.{Proposal as ProposalMessage, Accept as AcceptMessage, Confirm as ConfirmMessage, Decline as DeclineMessage}
-use Rattle.clc_wire.specs.Clc.{Fits, HasNoPrefix, IsMessage}
+use Rattle.clc_wire.specs.Clc.{Fits, IsMessage}
 use Rattle.pipe_model.specs.declared.reply.Lack.{Lack}
 use Rattle.pipe_model.specs.declared.reply.Lack.TheVariants.{NotCapable, NoSubnet, NoServerElement, NoClientElement, NoSlot, GroupLost, Raw}
 use Rattle.pipe_model.specs.declared.setup.Setup.{Setup}
@@ -182,12 +182,6 @@ old-is setup n (DeclineMessage r) few subnet is = subst (λ q. IsMessage (Declin
     peer-long A = refl
     peer-long B = refl
 
-old-bare : (setup : Setup) (n : ℕ) (m : ClcMessage) → IsOld setup n m → HasNoPrefix m
-old-bare setup n (ProposalMessage p) is = ap (λ q. q.v6) is
-old-bare setup n (AcceptMessage o) is = tt
-old-bare setup n (ConfirmMessage o) is = tt
-old-bare setup n (DeclineMessage r) is = tt
-
 module _ (setup : Setup) (one : IsOneLink setup) (payload : List ℕ) (past : List Entry) (n : ℕ) (q : IsPlayed setup payload past n) (few : length past ≤ 2 ^ 18) (y : Side) (set : IsSet setup y) (x : Side) (s : ℕ) (m : ClcMessage) (first : head (untaken x s past) ≡ Some m) where
   old : IsOld setup (length past) m
   old = each-first (IsOld setup (length past)) (untaken x s past) m (all-old setup one payload past n q x s) first
@@ -197,6 +191,3 @@ module _ (setup : Setup) (one : IsOneLink setup) (payload : List ℕ) (past : Li
 
   pub untaken-is-message : (slice_index_or setup.subnet 0 (0, 0)).0 < 2 ^ 32 → IsMessage m
   untaken-is-message subnet = old-is setup (length past) m set.sockets subnet old
-
-  pub untaken-is-bare : HasNoPrefix m
-  untaken-is-bare = old-bare setup (length past) m old

@@ -24,7 +24,7 @@ use Rattle.smc_num.specs.Names.{head, no_link, other}
 use Rattle.smc_num.specs.declared.LinkId.{LinkId}
 use Rattle.smc_num.specs.declared.Side.{Side}
 use Rattle.smc_num.specs.declared.Side.TheVariants.{A, B}
-use Rattle.std.proofs.Common.{Bool, List, [], ap, eqb-true, false, filter_map, if◌then◌else◌, inl, inr, length, refl, subst, suc, sym, true, true≢false, zero, ℕ, ◌++◌, ◌<◌, ◌==◌, ◌∙◌, ◌∷◌, ◌≡◌, ◌⊎◌}
+use Rattle.std.proofs.Common.{true≢false, Bool, List, [], ap, eqb-true, false, filter_map, if◌then◌else◌, inl, inr, length, refl, subst, suc, sym, true, zero, ℕ, ◌++◌, ◌<◌, ◌==◌, ◌∙◌, ◌∷◌, ◌≡◌, ◌⊎◌}
 use Rattle.std.specs.Prelude.{None, Option, Some, option_map, slice_index_or, slice_set, unwrap_or}
 use Rattle.world_core.proofs.AcceptEntries.{first-accepted, later-accepted}
 use Rattle.world_core.proofs.ConfirmEntries.{IsFirstConfirmed, first-confirmed}
@@ -158,9 +158,6 @@ of-place setup payload x s past ob ours a =
         ap (λ l. l.place) g.1 ∙ ap (λ o. offered_place o) is
 
 module _ (setup : Setup) (one : IsOneLink setup) (payload : List ℕ) (regions : List Buffer) (past : List Entry) (stage : Stage) (world : IsWorld setup stage past) (was : HasLendings setup payload past) (actor n s : ℕ) (posts : List Post) (known : s < setup.sockets) where
-  abbrev entry : Side → Reply → Entry
-  entry dir reply = entry-of actor (Clc s dir) reply posts
-
   abbrev Plays : Side → Reply → Type 0
   Plays dir reply = IsPlayed setup payload (entry-of actor (Clc s dir) reply posts ∷ past) n
 

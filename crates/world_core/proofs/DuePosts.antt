@@ -37,10 +37,6 @@ only-pipes setup payload past before event reply r none =
     ap (λ r. let e : Entry = record { actor = 0; event = event; reply = r; posts = asked setup payload past event r } in e.posts ++ connection_posts setup payload e past) (sym r)
     ∙ ap (λ (ps : List Post). ps ++ connection_posts setup payload (record { actor = 0; event = event; reply = reply; posts = ps }) past) none
 
--- what an end posts: its one message, where it is due
-cdc-alone : (ps : List Post) → ps ++ [] ≡ ps
-cdc-alone ps = append-nil ps
-
 -- the key that was bound last is the one that is known
 pub last-known : (y : Side) (q : Entry) (past : List Entry) (n : ℕ) → keys_of y (q ∷ past) ≡ the_keys y → n ≡ 1 → last_bound y n the_link (q ∷ past) ≡ Some (the_key y).key
 last-known y q past n k one =

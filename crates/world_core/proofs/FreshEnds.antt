@@ -18,7 +18,7 @@ use Rattle.smc_num.specs.Names.{has_link, head, other}
 use Rattle.smc_num.specs.declared.LinkId.{LinkId}
 use Rattle.smc_num.specs.declared.Side.{Side}
 use Rattle.smc_num.specs.declared.Side.TheVariants.{A, B}
-use Rattle.std.proofs.Common.{Bool, List, [], ap, drop, eq-eqb, false, filter_map, if◌then◌else◌, inl, inr, length, map, nat_lt, not, refl, reverse, sym, take, true, true≢false, ℕ, ◌&&◌, ◌++◌, ◌==◌, ◌||◌, ◌∙◌, ◌∷◌, ◌≡◌}
+use Rattle.std.proofs.Common.{true≢false, Bool, List, [], ap, drop, eq-eqb, false, filter_map, if◌then◌else◌, inl, inr, length, map, nat_lt, not, refl, reverse, sym, take, true, ℕ, ◌&&◌, ◌++◌, ◌==◌, ◌||◌, ◌∙◌, ◌∷◌, ◌≡◌}
 use Rattle.std.specs.Prelude.{None, Option, Some, is_some, option_map, option_to_list}
 use Rattle.world_core.proofs.Handshaken.{gives-items, shaken}
 use Rattle.world_core.proofs.LinkFacts.{is_live_at, live-where-up}

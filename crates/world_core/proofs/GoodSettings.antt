@@ -68,9 +68,6 @@ from_links setup room = or_bad Links setup.links (setup.links == 1) (from_size s
 abbrev from_b : Setup → Room → Option BadField
 from_b setup room = or_bad (Subnet B) ((subnet_of setup B).0 * 256 + (subnet_of setup B).1) (is_subnet (subnet_of setup B)) (from_links setup room)
 
-abbrev from_a : Setup → Room → Option BadField
-from_a setup room = or_bad (Subnet A) ((subnet_of setup A).0 * 256 + (subnet_of setup A).1) (is_subnet (subnet_of setup A)) (from_b setup room)
-
 -- all settings are in their ranges
 pub record AreGood (setup : Setup) (room : Room) : Type 0 where
   pub one : IsOneLink setup

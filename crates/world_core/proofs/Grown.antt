@@ -24,9 +24,6 @@ Grows h k = (h.rd ≤ k.rd) × ((more : List ℕ) × (k.out ≡ h.out ++ more))
 no-more : (h : Half) → Grows h h
 no-more h = (omega arith, ([], sym (append-nil h.out)))
 
-still : (h k : Half) → k.rd ≡ h.rd → k.out ≡ h.out → Grows h k
-still h k e f = (omega (arith, e), ([], f ∙ sym (append-nil h.out)))
-
 on : (h k j : Half) → Grows h k → Grows k j → Grows h j
 on h k j p q =
     let a = p.1 in

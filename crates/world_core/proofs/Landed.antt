@@ -1,5 +1,5 @@
 -- After each entry the bytes of each end go on standing where its peer reads them.
-use Rattle.std.proofs.Common.{◌≡◌, ◌∙◌, ◌==◌, ◌⊎◌, inl, inr, ℕ, ◌+◌, ◌-◌, ◌%◌, ◌≤◌, Bool, true, false, if◌then◌else◌, List, [], ◌∷◌, ◌++◌, zero, suc, length, take, drop, find, filter, refl, ap, sym, subst, ◌&&◌, true≢false, arith, eqb-true, eq-eqb, length-drop}
+use Rattle.std.proofs.Common.{true≢false, ◌≡◌, ◌∙◌, ◌==◌, ◌⊎◌, inl, inr, ℕ, ◌+◌, ◌-◌, ◌%◌, ◌≤◌, Bool, true, false, if◌then◌else◌, List, [], ◌∷◌, ◌++◌, zero, suc, length, take, drop, find, filter, refl, ap, sym, subst, ◌&&◌, arith, eqb-true, eq-eqb, length-drop}
 use Rattle.smc_num.specs.declared.LinkId.{LinkId}
 use Rattle.world_core.proofs.Carrying.{drop-none}
 use Rattle.std.proofs.lemmas.Grind.{common_steps}
@@ -37,7 +37,6 @@ use Rattle.world_core.proofs.Stood.{lies-inside, slice-length, stand-more, stand
 use Rattle.world_core.proofs.OnWay.{carries-up, tells-next}
 use Rattle.world_core.proofs.Moved.{mark, count, starts, finish, moved-stays, moved-lands, moved-passes, moved-completes}
 use Rattle.rmb_region.specs.Regions.{IsInside}
-use Rattle.world_core.specs.Agreement.{IsElse}
 use Rattle.world_core.proofs.Standing.{Owned, own-write, bytes-are, element-of, found-apart, tail-of, on-link-is, AllReach}
 use Rattle.world_core.proofs.Pipes.{has-pipe}
 use Rattle.world_core.proofs.Own.{grouped}
@@ -54,9 +53,6 @@ none-first m ms rest i e f = nothing i (sym (ap (λ ks. head (drop i ks)) e) ∙
 module _ (setup : Setup) (one : IsOneLink setup) (payload : List ℕ) (x : Side) where
   abbrev Size : ℕ
   Size = element_size setup
-
-  abbrev AllStrange : List Entry → Type 0
-  AllStrange past = (token : ℕ) (place : Place) → ((s : ℕ) → IsElse token (offered (other x) s past)) → Carries Size x place token 0 (waiting_posts x past) [] 0
 
   module _ (e : Entry) (past : List Entry) (n : ℕ) (p : IsPlayed setup payload (e ∷ past) n) (all : AllReach setup one payload x past) (is : IsRmb setup (other x) (peer_buffer setup payload x past)) where
     abbrev Buf : Buffer

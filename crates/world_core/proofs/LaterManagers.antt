@@ -43,7 +43,7 @@ use Rattle.pipe_model.specs.declared.reply.Reply.TheVariants.{Established}
 use Rattle.pipe_model.specs.declared.post.Post.TheVariants.{Clc as ClcPost}
 use Rattle.pipe_model.specs.declared.event.Event.TheVariants.{Clc}
 use Rattle.clc_wire.specs.declared.message.ClcMessage.TheVariants.{Confirm as ConfirmMessage}
-use Rattle.pipe_model.specs.Ends.{Half, fresh, settle, is_due, posts_batch, comes_up, is_over}
+use Rattle.pipe_model.specs.Ends.{Half, fresh, settle, is_due, comes_up, is_over}
 use Rattle.pipe_model.specs.Pipe.{Item, Up, half, pipe}
 use Rattle.pipe_model.specs.Connections.{IsUp, WaitsConfirm, is_up, early_state, end_state, after_loss, named_link, group_on, items, part}
 use Rattle.element_ledger.specs.Lendings.{Row, changes_at, lends as lends_row, place_of}
@@ -68,9 +68,6 @@ new-rests depth number live link = by (has_link link live) (nat_lt 0 depth)
     by true true = refl
     by true false = refl
     by false b = refl
-
-pub new-settles : (depth number : ℕ) (live : List LinkId) (link : LinkId) → settle depth (comes_up link (new_end number live)) ≡ comes_up link (new_end number live)
-new-settles depth number live link = ap (λ b. if b then posts_batch (comes_up link (new_end number live)) else comes_up link (new_end number live)) (new-rests depth number live link)
 
 module _ (setup : Setup) (payload : List ℕ) (regions : List Buffer) (past : List Entry) (t0 s actor : ℕ) (o ob : Offer) (is_first : o.first ≡ false)
     (was : IsAtStage setup (LiveAtBoth t0) past) (now : IsAtStage setup (LiveAtBoth t0) (later_entry actor s o ∷ past)) (lendings_are : HasLendings setup payload past) (known : s < setup.sockets)

@@ -12,7 +12,6 @@ use Rattle.world_core.specs.Sockets.{IsWorld}
 use Rattle.world_core.specs.Managers.{HasLendings, keeps_element, lending_due, lending_on}
 use Rattle.world_core.proofs.KeyedEnds.{behind}
 use Rattle.world_core.proofs.KnownEntries.{LentToUp}
-use Rattle.world_core.proofs.QuietEntries.{IsCalm, lent-stays, shows-now, socket-stays}
 
 -- before any entry
 pub none-lent : (setup : Setup) (payload : List ℕ) → HasLendings setup payload []
@@ -49,10 +48,3 @@ lent-to-up setup payload stage past w h x s up =
     let at = k.stands in
     let i = behind k.at x (sym (at.up x) ∙ up) in
     (lends_by s the_link i.own, h.each x s ∙ lending-due x s past (record { link = the_link; offer = i.own }) (at.offer x ∙ i.ours) (ap (λ b. keeps_element (if b then IsUp else early_state x s past)) up))
-
--- an entry that moves ends alone keeps them
-pub calm-lendings : (setup : Setup) (payload : List ℕ) (stage : Stage) (e : Entry) (past : List Entry) → IsCalm setup payload stage e past → HasLendings setup payload past → HasLendings setup payload (e ∷ past)
-calm-lendings setup payload stage e past calm h =
-    lendings-kept setup payload e past h (lent-stays setup payload stage e past calm)
-    (λ x s. let v = shows-now setup payload stage e past calm in v.offer x s)
-    (λ x s. let k = socket-stays setup payload stage e past calm x s in ap (λ st. keeps_element st) k.state)

@@ -68,7 +68,6 @@ pub mod LandedEnds
 pub mod LandingCases
 pub mod LandingEntries
 pub mod LandingMessages
-pub mod LandingNow
 pub mod Landings
 pub mod LandingsAfter
 pub mod LastSent
@@ -86,7 +85,6 @@ pub mod LinkManagers
 pub mod LinkMoves
 pub mod LinkRoom
 pub mod LinkTold
-pub mod Lists
 pub mod MayTakes
 pub mod MessageEnds
 pub mod Moved

@@ -24,11 +24,6 @@ use Rattle.pipe_model.specs.Fabric.{has_ended, loses_group_with, peer, Fabric, g
 use Rattle.world_core.specs.OneLink.{Asking, Begun, LiveAtA, LiveAtBoth, Made, NoLink, Stage, book_at, fabric_at, keys_at, the_key, the_keys, the_link, IsAtStage, groups_at}
 use Rattle.pipe_model.specs.Posts.{groups_begun}
 
--- the first of two tests
-then-first : (b : Bool) (u v : Bool) → (if b then u else v) ≡ true → v ≡ false → u ≡ true
-then-first true u v e f = e
-then-first false u v e f = cc
-
 -- a side that has a group has offered
 offers-at : (k : Socket) → is_unoffered k ≡ true → (x : Side) → offered_at k x ≡ None
 offers-at Unopened e x = refl

@@ -65,9 +65,6 @@ module _ {x : Side} {from to : Stage} {reply : Bool} (setup : Setup) (payload : 
     (world : IsWorld setup from past) (now : IsAtStage setup to (e ∷ past)) (i : IsConfirming payload x reply e past) (plain : ArePlain e.posts)
     (n : ℕ) (played : IsPlayed setup payload (e ∷ past) n) (shaken : IsShaken setup (e ∷ past)) (lendings_are : HasLendings setup payload past)
     (stays : (y : Side) (s : ℕ) → leaves_handshake y s e.event e.reply ≡ false) (unraw : (s : ℕ) → is_raw s (e ∷ past) ≡ is_raw s past) where
-  abbrev pub t : ℕ
-  t = first_on x past
-
   pub w : IsWaiting setup x (first_on x past) past
   w = is-waiting setup past c world
 

@@ -16,7 +16,7 @@ use Rattle.smc_num.specs.Names.{at_side, head, no_link, other, up_to}
 use Rattle.smc_num.specs.declared.LinkId.{LinkId}
 use Rattle.smc_num.specs.declared.Side.{Side}
 use Rattle.smc_num.specs.declared.Side.TheVariants.{A, B}
-use Rattle.std.proofs.Common.{Bool, List, [], ap, arith, cond, eq-eqb, eqb-true, false, if◌then◌else◌, inl, inr, length, map, not, refl, subst, suc, sym, true, true≢false, zero, ℕ, ◌&&◌, ◌+◌, ◌<◌, ◌==◌, ◌^◌, ◌∙◌, ◌∷◌, ◌≡◌, ◌≤◌, ◌⊎◌}
+use Rattle.std.proofs.Common.{true≢false, Bool, List, [], ap, arith, cond, eq-eqb, eqb-true, false, if◌then◌else◌, inl, inr, length, map, not, refl, subst, suc, sym, true, zero, ℕ, ◌&&◌, ◌+◌, ◌<◌, ◌==◌, ◌^◌, ◌∙◌, ◌∷◌, ◌≡◌, ◌≤◌, ◌⊎◌}
 use Rattle.std.specs.Prelude.{None, Option, Some, option_map, slice_index_or, unwrap_or}
 use Rattle.world_core.proofs.AllLendings.{has-lendings}
 use Rattle.world_core.proofs.KeptManagers.{conn-at}
@@ -343,10 +343,6 @@ verdict-kept s m paths v plain stands =
 
 pub told-kept : (s : ℕ) (m : ClcMessage) (paths : List Bool) (v : Manager Kept) (plain : Manager Half) → StandsFor v plain → taking_told s m paths v ≡ taking_told s m paths plain
 told-kept s m paths v plain stands = ap (λ st. step_told (named_group m) m st) (verdict-kept s m paths v plain stands)
-
-pub state-kept : (setup : Setup) (payload : List ℕ) (regions : List Buffer) (x : Side) (past : List Entry) (v : Manager Kept) → StandsFor v (manager_of setup payload regions x past) → (s : ℕ) → s < setup.sockets → state_at s v ≡ end_state x s past
-state-kept setup payload regions x past v stands s known =
-    ap (λ (hands : List Hand). (slice_index_or hands s no_hand).state) stands.hands ∙ ap (λ (hand : Hand). hand.state) (at-socket (hand_of x past) setup.sockets s no_hand known)
 
 -- what a caller must see to
 pub may-take : (setup : Setup) (payload : List ℕ) (set : IsWorldSet setup payload) (past : List Entry) (n : ℕ) → IsPlayed setup payload past n → length past ≤ 2 ^ 18 → (regions : List Buffer) (dir : Side) (v : Manager Kept)

@@ -1,16 +1,11 @@
 -- What an event takes off the wires of both sides, side by side with the one that acts.
-use Rattle.std.proofs.Common.{◌≡◌, ◌∙◌, ℕ, List, ◌∷◌, refl}
+use Rattle.std.proofs.Common.{◌≡◌, ℕ, refl}
 use Rattle.smc_num.specs.declared.Side.{Side}
 use Rattle.smc_num.specs.declared.Side.TheVariants.{A, B}
 use Rattle.smc_num.specs.Names.{other}
 use Rattle.pipe_model.specs.declared.event.Event.TheVariants.{Deliver, Complete}
-use Rattle.pipe_model.specs.declared.setup.Setup.{Setup}
-use Rattle.pipe_model.specs.declared.entry.Entry.{Entry}
 use Rattle.rc_link.specs.Wire.{Queues, landing, completing, with_landed, with_completed}
-use Rattle.world_core.specs.Played.{IsOneLink, IsPlayed}
-use Rattle.world_core.specs.Hosts.{IsWireAfter}
-use Rattle.world_core.specs.Sending.{moved, acting_side}
-use Rattle.world_core.proofs.WiresAfter.{wire-theirs}
+use Rattle.world_core.specs.Sending.{moved}
 
 pub twice : (x : Side) → x ≡ other (other x)
 twice A = refl
@@ -32,8 +27,3 @@ complete-own B slot w = refl
 pub complete-else : (x : Side) (slot : ℕ) (w : Queues) → moved (other x) (Complete slot x) w ≡ w
 complete-else A slot w = refl
 complete-else B slot w = refl
-
--- the wire of the peer of the side that acts
-pub wire-peers : (setup : Setup) (one : IsOneLink setup) (payload : List ℕ) (e : Entry) (past : List Entry) (n : ℕ) → IsPlayed setup payload (e ∷ past) n → (x : Side) → acting_side e.event ≡ x → (w : Queues)
-    → IsWireAfter setup payload (other x) past w → IsWireAfter setup payload (other x) (e ∷ past) (moved (other x) e.event w)
-wire-peers setup one payload e past n p x acts w wire = wire-theirs setup one payload e past n p (other x) (acts ∙ twice x) w wire

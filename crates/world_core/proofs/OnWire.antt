@@ -1,5 +1,5 @@
 -- What would land or complete on a wire is the first of its queue in the history, of its side and on the one link.
-use Rattle.std.proofs.Common.{◌≡◌, ◌∙◌, ℕ, ◌==◌, ◌&&◌, Bool, true, false, List, [], ◌∷◌, map, filter, take, drop, cond, refl, ap, sym, subst, true≢false, eqb-true}
+use Rattle.std.proofs.Common.{true≢false, ◌≡◌, ◌∙◌, ℕ, ◌&&◌, Bool, true, false, List, [], ◌∷◌, map, filter, take, drop, cond, refl, ap, sym, subst}
 use Rattle.std.specs.Prelude.{Option, Some, None, option_map}
 use Rattle.smc_num.specs.declared.Side.{Side}
 use Rattle.smc_num.specs.declared.Side.TheVariants.{A, B}
@@ -42,18 +42,6 @@ same-side-is B B e = refl
 same-side-is A B e = absurd (true≢false (sym e))
 same-side-is B A e = absurd (true≢false (sym e))
 
-same-link-is : (a : LinkId) → same_link the_link a ≡ true → a ≡ the_link
-same-link-is a e = by (1 == a.group) (1 == a.slot) (1 == a.incarnation) refl refl refl e
-  where
-    by : (g s i : Bool) → (1 == a.group) ≡ g → (1 == a.slot) ≡ s → (1 == a.incarnation) ≡ i → (g && (s && i)) ≡ true → a ≡ the_link
-    by false s i u v w h = cc
-    by true false i u v w h = cc
-    by true true false u v w h = cc
-    by true true true u v w h =
-        ap (λ n. let l : LinkId = record { group = n; slot = a.slot; incarnation = a.incarnation } in l) (sym (eqb-true 1 a.group u))
-        ∙ (ap (λ n. let l : LinkId = record { group = 1; slot = n; incarnation = a.incarnation } in l) (sym (eqb-true 1 a.slot v))
-        ∙ ap (λ n. let l : LinkId = record { group = 1; slot = 1; incarnation = n } in l) (sym (eqb-true 1 a.incarnation w)))
-
 and-left : (a b : Bool) → (a && b) ≡ true → a ≡ true
 and-left true b e = refl
 and-left false b e = e
@@ -66,11 +54,6 @@ and-right false b e = absurd (true≢false (sym e))
 module _ (x : Side) (c : Carried) (there : is_on the_link x c.post ≡ true) where
   pub sent-by : (post : Post) → c.post ≡ post → sender post ≡ x
   sent-by post e = same-side-is x (sender post) (and-left (same_side x (sender post)) (passes (same_link the_link) (link_of_post post)) (ap (λ q. is_on the_link x q) (sym e) ∙ there))
-
-  pub sent-on : (post : Post) (link : LinkId) → c.post ≡ post → link_of_post post ≡ Some link → link ≡ the_link
-  sent-on post link e f =
-      same-link-is link (ap (λ o. passes (same_link the_link) o) (sym f)
-      ∙ and-right (same_side x (sender post)) (passes (same_link the_link) (link_of_post post)) (ap (λ q. is_on the_link x q) (sym e) ∙ there))
 
   pub never-clc : (from : Side) (s : ℕ) (link : Option LinkId) (m : ClcMessage) → c.post ≡ Clc from s link m → ⊥
   never-clc from s link m e =

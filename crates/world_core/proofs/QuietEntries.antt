@@ -159,9 +159,6 @@ module _ (payload : List ℕ) (stage : Stage) (d : Entry) (past : List Entry) (w
   only-deeds g s = items-are payload g s d past ∙ (ap (λ (is : List Item). deeds payload s d.event d.reply past ++ is) (no-below g s) ∙ append-nil (deeds payload s d.event d.reply past))
 
 module _ (setup : Setup) (payload : List ℕ) (stage : Stage) (e : Entry) (past : List Entry) (calm : IsCalm setup payload stage e past) where
-  abbrev quiet-now : IsQuiet (bare e) past
-  quiet-now = calm.quiet
-
   was-at : fabric past ≡ fabric_at stage
   was-at = let w = calm.world in let l = w.link in l.fabric_is
 

@@ -125,9 +125,6 @@ module _ (setup : Setup) (payload : List ℕ) (regions : List Buffer) (stage : S
   -- an entry that moves ends alone
   module _ (event : Event) (reply : Reply) (played : IsPlayed setup payload (entry-of actor event reply posts ∷ past) n) (shaken : IsShaken setup (entry-of actor event reply posts ∷ past))
       (quiet : IsQuiet (entry-of actor event reply []) past) (none : asked setup payload past event reply ≡ []) (stays : stays-in event reply) where
-    abbrev entry_now : Entry
-    entry_now = entry-of actor event reply posts
-
     calm-now : IsCalm setup payload stage (entry-of actor event reply posts) past
     calm-now = calm-of setup payload stage (entry-of actor event reply posts) past n played shaken world quiet none stays
 

@@ -149,10 +149,6 @@ module _ (setup : Setup) (payload : List ℕ) (regions : List Buffer) (past : Li
   end-same : (y : Side) (t : ℕ) → end_of setup payload y t (e ∷ past) ≡ end_of setup payload y t past
   end-same y t = end-stays setup payload past e (no-items actor posts) y t (ap (λ o. unwrap_or (option_map (λ (link : LinkId). link.group) (option_map (λ (p : Offered). p.link) o)) 0) (offer-stays e past plain-now B t))
 
-  -- the connection of the socket hears the offer
-  heard-was : heard_on B s past ≡ None
-  heard-was = ap (λ st. if awaits_confirm st then None else option_map (λ (p : Offered). p.offer) (offered A s past)) state
-
   heard-here : heard_on B s (e ∷ past) ≡ Some o
   heard-here =
       ap (λ st. if awaits_confirm st then None else option_map (λ (p : Offered). p.offer) (offered A s (e ∷ past))) state-here

@@ -16,7 +16,7 @@ use Rattle.pipe_model.specs.declared.entry.Entry.{Entry}
 use Rattle.pipe_model.specs.History.{Offered, offered}
 use Rattle.pipe_model.specs.Ends.{Half, settle, comes_up, meets_fate}
 use Rattle.pipe_model.specs.Connections.{IsUp, is_up, early_state, end_state, named_link}
-use Rattle.pipe_model.specs.Lending.{Lending, lends_by, lendings, lent, free_places, leaves_handshake}
+use Rattle.pipe_model.specs.Lending.{Lending, lendings, lent, free_places, leaves_handshake}
 use Rattle.pipe_model.specs.Fallback.{is_raw}
 use Rattle.side_core.specs.Records.{Connection}
 use Rattle.side_core.specs.Manager.{no_hand}
@@ -25,12 +25,11 @@ use Rattle.world_core.specs.OneLink.{the_link, Stage, IsAtStage}
 use Rattle.world_core.specs.Sockets.{IsWorld}
 use Rattle.world_core.specs.Played.{IsPlayed}
 use Rattle.world_core.specs.Agreement.{IsShaken}
-use Rattle.world_core.specs.Managers.{manager_of, desk_of, hand_of, conn_of, end_of, first_on, heard_on, awaits_confirm, each_socket, lending_on, HasLendings, keeps_element}
+use Rattle.world_core.specs.Managers.{manager_of, desk_of, hand_of, conn_of, end_of, first_on, heard_on, awaits_confirm, each_socket, lending_on, HasLendings}
 use Rattle.world_core.proofs.PlainPosts.{ArePlain, offer-stays, lendings-stay}
 use Rattle.world_core.proofs.SameManagers.{SameRoute, conn_from, same-conn, same-spare, route_from}
 use Rattle.world_core.proofs.KeptManagers.{by-parts}
 use Rattle.world_core.proofs.Tables.{same-sockets, set-socket, at-socket}
-use Rattle.world_core.proofs.Lendings.{lending-due}
 use Rattle.world_core.proofs.Confirming.{Confirming, IsConfirming, IsWaiting}
 use Rattle.world_core.proofs.LinkManagers.{hear, rise, map-map, w, lent-now, own-desk, their-desk, own-hands, their-hands, conn-else, conn-else-before, end-risen, end-theirs, up-other, is-up-now, state-by}
 
@@ -43,12 +42,6 @@ module _ {x : Side} {from to : Stage} {reply : Bool} (setup : Setup) (payload : 
 
   pub waits : IsWaiting setup x (first_on x past) past
   waits = w setup payload regions e past c world now i plain n played shaken lendings_are stays unraw
-
-  -- the lending of first contact
-  pub lending-is : lending_on (first_on x past) (lent setup payload x past) ≡ Some (lends_by (first_on x past) the_link waits.own)
-  lending-is =
-      lendings_are.each x (first_on x past)
-      ∙ lending-due x (first_on x past) past (record { link = the_link; offer = waits.own }) waits.ours (ap (λ st. keeps_element st) waits.state)
 
   pub named-is : named_link (first_on x past) past ≡ Some the_link
   named-is = ap (λ o. option_map (λ (p : Offered). p.link) o) waits.of_b

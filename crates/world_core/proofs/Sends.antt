@@ -1,8 +1,8 @@
 -- A host sends the posts of an entry one after another.
 -- A reader learns here that what was sent so far, and what is left, make all posts of the entry.
-use Rattle.std.proofs.Common.{◌≡◌, ◌∙◌, ℕ, ◌+◌, ◌-◌, ◌<◌, ◌≤◌, Bool, true, false, if◌then◌else◌, List, [], ◌∷◌, length, filter, Option, Some, None, IsSome, option_map, unwrap_or, refl, sym, ap, subst, append_assoc, append-nil, arith, drop, get_or}
-use Rattle.std.proofs.lemmas.Bool.{false≢true}
+use Rattle.std.proofs.Common.{◌≡◌, ◌∙◌, ℕ, ◌+◌, ◌-◌, ◌<◌, ◌≤◌, Bool, true, false, if◌then◌else◌, List, [], ◌∷◌, length, filter, Option, Some, None, IsSome, option_map, unwrap_or, refl, sym, ap, subst, append_assoc, arith, drop, get_or}
 use Rattle.std.proofs.lemmas.List.{length-set, drop_more}
+use Rattle.std.proofs.lemmas.Bool.{false≢true}
 use Rattle.smc_num.specs.declared.Side.{Side}
 use Rattle.smc_num.specs.declared.LinkId.{LinkId}
 use Rattle.cdc_wire.specs.declared.CdcMessage.{CdcMessage}
@@ -55,11 +55,6 @@ room_behind : (posts : List Post) (post : Post) (room now : ℕ) (b : Bool) → 
 room_behind posts post room now true few e = omega (arith, few, e)
 room_behind posts post room now false few e = omega (arith, few, e)
 
-room_first : (posts : List Post) (post : Post) (w : Queues) (b : Bool) → length (if b then post ∷ filter goes_on_wire posts else filter goes_on_wire posts) ≤ room_of w
-    → b ≡ true → 0 < room_of w
-room_first posts post w true few e = omega (arith, few)
-room_first posts post w false few e = absurd (cc)
-
 pub same_length : (post : Post) (flows : List Outflow) → length (puts_one post flows) ≡ length flows
 same_length (Clc from s link message) flows = length-set flows s (puts link message (outflow_at s flows))
 same_length (Write from link key address len) flows = refl
@@ -73,18 +68,6 @@ pub record Sends (entry : ℕ) (core : Manager Kept) (all : List Post) (wire : Q
   pub streams : puts_all posts fs ≡ puts_all all flows
   pub may : MaySendAll (length fs) core posts
   pub room : length (filter goes_on_wire posts) ≤ room_of w
-
-pub sends_first : (entry : ℕ) (core : Manager Kept) (posts : List Post) (w : Queues) (fs : List Outflow) → MaySendAll (length fs) core posts → length (filter goes_on_wire posts) ≤ room_of w
-    → Sends entry core posts w fs 1 posts w fs
-sends_first entry core posts w fs may room = record { carried = λ m stands. refl; streams = refl; may = may; room = room }
-
-pub may_next : (entry : ℕ) (core : Manager Kept) (all : List Post) (wire : Queues) (flows : List Outflow) (number : ℕ) (post : Post) (posts : List Post) (w : Queues) (fs : List Outflow)
-    → Sends entry core all wire flows number (post ∷ posts) w fs → MaySend (length fs) core post
-may_next entry core all wire flows number post posts w fs sends = sends.may.0
-
-pub room_next : (entry : ℕ) (core : Manager Kept) (all : List Post) (wire : Queues) (flows : List Outflow) (number : ℕ) (post : Post) (posts : List Post) (w : Queues) (fs : List Outflow)
-    → Sends entry core all wire flows number (post ∷ posts) w fs → goes_on_wire post ≡ true → 0 < room_of w
-room_next entry core all wire flows number post posts w fs sends = room_first posts post w (goes_on_wire post) sends.room
 
 pub sends_next : (entry : ℕ) (core : Manager Kept) (all : List Post) (wire : Queues) (flows : List Outflow) (number : ℕ) (post : Post) (posts : List Post) (w : Queues) (fs : List Outflow)
     → Sends entry core all wire flows number (post ∷ posts) w fs → (v : Queues) (gs : List Outflow)
@@ -109,7 +92,3 @@ sends_at entry core all wire flows i d within w fs sends at e f now g v gs is pu
     sends_next entry core all wire flows (i + 1) (get_or all i d) (drop (i + 1) all) w fs
     (subst (λ ps. Sends entry core all wire flows (i + 1) ps w fs) (drop_more all i d within) sends) v gs
     (λ m stands. is m (subst (λ c. StandsFor c m) (sym g) stands) ∙ ap (λ (r : PostRef). posts_one m r (get_or all i d) w) (place_is at entry (i + 1) e f)) puts_is room
-
-pub no_more : (entry : ℕ) (core : Manager Kept) (all : List Post) (wire : Queues) (flows : List Outflow) (number : ℕ) (w : Queues) (fs : List Outflow)
-    → Sends entry core all wire flows number [] w fs → ((m : Manager Half) → StandsFor core m → w ≡ with_posts (carried_from m entry 1 all) wire) × (fs ≡ puts_all all flows)
-no_more entry core all wire flows number w fs sends = (λ m stands. ap (λ xs. record w { waiting = xs }) (sym (append-nil w.waiting)) ∙ sends.carried m stands, sends.streams)

@@ -1,5 +1,5 @@
 -- A lending of the lowest free element begins: its row changes and no other, one element less is free, and other lendings keep their epochs.
-use Rattle.std.proofs.Common.{◌≡◌, ◌∙◌, ℕ, ◌+◌, ◌-◌, ◌<◌, ◌==◌, ◌&&◌, ◌||◌, not, Bool, true, false, cond, if◌then◌else◌, List, [], ◌∷◌, length, map, filter, refl, ap, sym, suc, zero, arith, true≢false, eq-eqb, eqb-true, ne_eqb}
+use Rattle.std.proofs.Common.{true≢false, ◌≡◌, ◌∙◌, ℕ, ◌+◌, ◌-◌, ◌<◌, ◌==◌, ◌&&◌, ◌||◌, not, Bool, true, false, cond, if◌then◌else◌, List, [], ◌∷◌, length, map, filter, refl, ap, sym, suc, zero, arith, eq-eqb, eqb-true, ne_eqb}
 use Rattle.std.specs.Prelude.{Option, Some, None, option_map, unwrap_or}
 use Rattle.std.specs.List.{list_any, range_with_len}
 use Rattle.std.proofs.lemmas.List.{append-nil}
@@ -36,10 +36,6 @@ module _ (l : Lending) (all ls : List Lending) where
       one-more : (n : ℕ) → suc n ≡ n + 1
       one-more n = omega arith
   epoch-more q false e = ap (λ b. length (cond b (l ∷ filter (λ l. same_place q l.place) all) (filter (λ l. same_place q l.place) all))) e
-
-  row-epoch : (q : Place) (o : Option ℕ) (n : ℕ) → (lent_to o (record (fresh q) { epoch = n })).epoch ≡ n
-  row-epoch q None n = refl
-  row-epoch q (Some s) n = refl
 
   lent-over : (q : Place) (o : Option ℕ) (n : ℕ) → lends l.s (lent_to o (record (fresh q) { epoch = n })) ≡ lent_to (Some l.s) (record (fresh q) { epoch = n + 1 })
   lent-over q None n = refl

@@ -1,5 +1,5 @@
 -- What stands in the streams of a played history: the CLC messages that wait, and behind them the bytes of an end that has fallen back.
-use Rattle.std.proofs.Common.{◌≡◌, ◌∙◌, ap, sym, subst, refl, arith, length-append, append_assoc, append-nil, length-drop, eqb-true, true≢false}
+use Rattle.std.proofs.Common.{true≢false, ◌≡◌, ◌∙◌, ap, sym, subst, refl, arith, length-append, append_assoc, append-nil, length-drop, eqb-true}
 use Rattle.std.proofs.lemmas.List.{length-take, take-take, take_min, drop_all, nil_from_length}
 use Rattle.std.proofs.Math.Seq.{drop-append_seam, take-nil}
 use Rattle.std.proofs.Math.Nat.{min-le_left, min_comm}
@@ -633,17 +633,3 @@ unfallen-reads x s end len reply past f = read-by x s end len reply past ∙ ap 
         ap (λ a. a && ((s == end.s) && is_fallen (other x) s past)) h
         ∙ (ap (λ b. b && is_fallen (other x) s past) g
         ∙ (ap (λ y. is_fallen y s past) (same-side (other x) end.side h) ∙ (ap (λ r. is_fallen end.side r past) (eqb-true s end.s g) ∙ f)))
-
--- nor does a read that is told of no bytes
-pub empty-reads : (x : Side) (s : ℕ) (end : End) (len : ℕ) (reply : Reply) (past : List Entry) → taken-of reply ≡ 0 → read_out x s (Read end len) reply past ≡ 0
-empty-reads x s end len reply past none =
-    let own : Bool = same_side (other x) end.side && ((s == end.s) && is_fallen (other x) s past) in
-    read-by x s end len reply past ∙ (ap (λ k. if own then k else 0) none ∙ if-same own 0)
-
-pub not-taken : (x : Side) (s t : ℕ) (dir : Side) (reply : Reply) → takes_message reply ≡ false → takes_clc x s (Clc t dir) reply ≡ false
-not-taken x s t dir reply none = ap (λ b. (s == t) && (same_side x dir && b)) none ∙ by (s == t) (same_side x dir)
-  where
-    by : (a b : Bool) → (a && (b && false)) ≡ false
-    by true true = refl
-    by true false = refl
-    by false b = refl

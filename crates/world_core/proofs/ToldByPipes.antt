@@ -1,5 +1,5 @@
 -- What the calls of a connection were told over a whole played history is what its private pipe tells, and so the same in any two worlds.
-use Rattle.std.proofs.Common.{◌≡◌, ◌∙◌, ◌⊎◌, inl, inr, ◌==◌, ◌&&◌, ℕ, Bool, true, false, if◌then◌else◌, List, [], ◌∷◌, ◌++◌, length, take, drop, map, filter, refl, ap, sym, subst, true≢false, eqb-true, append-nil, append_assoc, ◌||◌, min, nat_lt}
+use Rattle.std.proofs.Common.{true≢false, ◌≡◌, ◌∙◌, ◌⊎◌, inl, inr, ◌==◌, ◌&&◌, ℕ, Bool, true, false, if◌then◌else◌, List, [], ◌∷◌, ◌++◌, length, take, drop, map, filter, refl, ap, sym, subst, eqb-true, append-nil, append_assoc, ◌||◌, min, nat_lt}
 use Rattle.std.specs.Prelude.{Option, Some, None}
 use Rattle.std.proofs.Math.Seq.{take-append_seam, drop-append_seam}
 use Rattle.smc_num.specs.declared.Side.{Side}
@@ -116,10 +116,6 @@ fate-or-up-no-call (Lands x) e = refl
 fate-or-up-no-call (Completes x) e = refl
 
 module _ (setup : Setup) (payload : List ℕ) (g s : ℕ) (heard : List ℕ) where
-  -- what the calls of a socket were told so far is what the pipe tells
-  abbrev Matches : List Entry → Type 0
-  Matches past = was_told payload g s heard past ≡ answers (terms_of setup) (part payload g s past)
-
   with-items : (e : Entry) (past : List Entry) (is : List Item) → items payload g s e past ≡ is
       → map (λ i. read_as heard e.reply) (filter is_call_of is) ++ was_told payload g s heard past ≡ answers (terms_of setup) (is ++ part payload g s past)
       → was_told payload g s heard (e ∷ past) ≡ answers (terms_of setup) (part payload g s (e ∷ past))
@@ -165,10 +161,6 @@ module _ (setup : Setup) (one : IsOneLink setup) (payload : List ℕ) where
   only-call e past n p quiet none stays g s =
       let w = played setup one payload past p.0 p.3 in
       items-now setup payload w.stage e past (calm-of setup payload w.stage e past n p (shaken setup one payload (e ∷ past) n p) w.world quiet none stays) g s
-
-  -- a connection is in the one group, or was not offered
-  abbrev InGroup : ℕ → ℕ → List Entry → Type 0
-  InGroup g s past = (g ≡ 1) ⊎ (offered B s past ≡ None)
 
   none-offered : (x : Side) (s : ℕ) (past : List Entry) → HasOffers setup past → offered B s past ≡ None → offered (other x) s past ≡ None
   none-offered A s past h f = f

@@ -1,5 +1,5 @@
 -- The queues of a wire are those of the history: the same would land and complete, and an event takes off both alike.
-use Rattle.std.proofs.Common.{◌≡◌, ◌∙◌, ◌⊎◌, inl, inr, ℕ, Bool, true, false, if◌then◌else◌, List, [], ◌∷◌, length, map, refl, ap, sym, subst, ◌||◌, true≢false, arith}
+use Rattle.std.proofs.Common.{true≢false, ◌≡◌, ◌∙◌, ◌⊎◌, inl, inr, ℕ, Bool, true, false, if◌then◌else◌, List, [], ◌∷◌, length, map, refl, ap, sym, subst, ◌||◌, arith}
 use Rattle.std.specs.Prelude.{Option, Some, None, is_some, option_map, option_and_then}
 use Rattle.smc_num.specs.declared.Side.{Side}
 use Rattle.smc_num.specs.declared.Side.TheVariants.{A, B}
@@ -175,9 +175,6 @@ module _ (setup : Setup) (one : IsOneLink setup) (payload : List ℕ) (past : Li
       by (inr l) = inr l.0
 
   module _ (x : Side) (w : Queues) (wire : IsWireAfter setup payload x past w) where
-    abbrev MovingAs : Event → Reply → Type 0
-    MovingAs event reply = Moving x (As event reply) past w
-
     -- nothing lands
     none-lands : (reply : Reply) → reply ≡ deliver_told setup payload (other x) past (landing 1 x past) → Stays the_link x (As (Deliver 1 x) reply) past → next_landing w ≡ None
     none-lands reply r s = by (landing 1 x past) refl

@@ -1,5 +1,5 @@
 -- A write at the front of a wire: its sender has its bytes, which stand in the one RMB of its receiver as it lands.
-use Rattle.std.proofs.Common.{◌≡◌, ◌∙◌, ◌==◌, ◌&&◌, ◌⊎◌, inl, inr, ℕ, ◌+◌, ◌%◌, ◌≤◌, Bool, true, false, if◌then◌else◌, List, [], ◌∷◌, ◌++◌, length, take, drop, map, filter_map, zero, suc, refl, ap, sym, subst, true≢false, arith, eq-eqb, length-append}
+use Rattle.std.proofs.Common.{true≢false, ◌≡◌, ◌∙◌, ◌==◌, ◌&&◌, ◌⊎◌, inl, inr, ℕ, ◌+◌, ◌%◌, ◌≤◌, Bool, true, false, if◌then◌else◌, List, [], ◌∷◌, ◌++◌, length, take, drop, map, filter_map, zero, suc, refl, ap, sym, subst, arith, eq-eqb, length-append}
 use Rattle.std.specs.Prelude.{Option, Some, is_some, option_map, option_and_then, unwrap_or}
 use Rattle.std.specs.List.{cons_option}
 use Rattle.smc_num.specs.declared.Side.{Side}
@@ -39,7 +39,7 @@ use Rattle.side_core.specs.Desk.{Desk}
 use Rattle.side_core.specs.Acting.{MayWrite, bytes_land, buffer_of as buffer_among}
 use Rattle.side_core.specs.Comings.{IsGoing, IsGoingTo, IsGoingAt}
 use Rattle.side_core.specs.Landing.{MayGoOut}
-use Rattle.world_core.specs.Played.{IsOneLink, IsPlayed}
+use Rattle.world_core.specs.Played.{IsPlayed}
 use Rattle.world_core.specs.OneLink.{the_link, the_key, the_keys}
 use Rattle.world_core.specs.Sockets.{on_link}
 use Rattle.world_core.specs.Wired.{cdc_under, if_meant}
@@ -108,9 +108,6 @@ nothing-sent i ms m rest e f = none i (sym (ap (λ ks. head (drop i ks)) e) ∙ 
 pub buffer-is : (setup : Setup) (payload : List ℕ) (x : Side) (past : List Entry) → buffer_of setup payload (other x) past ≡ peer_buffer setup payload x past
 buffer-is setup payload A past = refl
 buffer-is setup payload B past = refl
-
-rmb-of : (setup : Setup) (one : IsOneLink setup) (payload : List ℕ) (x : Side) (past : List Entry) (n : ℕ) → IsPlayed setup payload past n → IsRmb setup (other x) (peer_buffer setup payload x past)
-rmb-of setup one payload x past n p = subst (λ b. IsRmb setup (other x) b) (buffer-is setup payload x past) (is-rmb setup one payload past n p (other x))
 
 module _ (setup : Setup) (payload : List ℕ) (x : Side) (e : Entry) (past : List Entry) where
   -- nothing of the side lands

@@ -1,6 +1,6 @@
 -- The two hosts of a world of one link, and what is true of them after a history.
 -- A reader learns here, subject by subject, for what of the history a manager, its wire and its streams stand, and what an event does to both hosts.
-use Rattle.std.specs.Prelude.{◌≡◌, ◌≤◌, ◌<◌, ℕ, ◌+◌, ◌*◌, ◌^◌, false, List, [], ◌∷◌, ◌++◌, length, map, filter, filter_map, reverse, Option, Some, None, IfSome, option_map}
+use Rattle.std.specs.Prelude.{◌≡◌, ◌≤◌, ◌<◌, ℕ, ◌+◌, ◌*◌, ◌^◌, false, List, [], ◌∷◌, ◌++◌, length, map, filter_map, reverse, Option, Some, IfSome, option_map}
 use Rattle.smc_num.specs.declared.Side.{Side}
 use Rattle.smc_num.specs.declared.Side.TheVariants.{A}
 use Rattle.smc_num.specs.Names.{other, head}
@@ -9,15 +9,15 @@ use Rattle.pipe_model.specs.declared.sent.Sent.{Sent}
 use Rattle.pipe_model.specs.declared.setup.Setup.{Setup}
 use Rattle.pipe_model.specs.declared.entry.Entry.{Entry}
 use Rattle.pipe_model.specs.Words.{elements_of}
-use Rattle.pipe_model.specs.History.{Offered, offered, next_number, numbered}
-use Rattle.pipe_model.specs.Wires.{is_on, unlanded, uncompleted}
+use Rattle.pipe_model.specs.History.{Offered, offered}
+use Rattle.pipe_model.specs.Wires.{unlanded, uncompleted}
 use Rattle.pipe_model.specs.Ends.{Half, to_land}
-use Rattle.pipe_model.specs.Pipe.{half, posts_of}
-use Rattle.pipe_model.specs.Lending.{pipe_of, terms_of}
-use Rattle.pipe_model.specs.Connections.{items, part}
+use Rattle.pipe_model.specs.Pipe.{half}
+use Rattle.pipe_model.specs.Lending.{pipe_of}
+use Rattle.pipe_model.specs.Connections.{items}
 use Rattle.pipe_model.specs.Fallback.{stream, untaken}
 use Rattle.rc_link.specs.declared.Carried.{Carried}
-use Rattle.rc_link.specs.Wire.{Queues, placed, unlanded as waiting_on, uncompleted as landed_on}
+use Rattle.rc_link.specs.Wire.{Queues, unlanded as waiting_on, uncompleted as landed_on}
 use Rattle.side_core.specs.Setups.{IsSet}
 use Rattle.side_core.specs.Manager.{StandsFor}
 use Rattle.world_core.specs.OneLink.{the_link}
@@ -83,12 +83,6 @@ pub record IsWireAfter (setup : Setup) (payload : List ℕ) (x : Side) (past : L
 -- a wire after more posts
 abbrev pub with_posts : List Carried → Queues → Queues
 with_posts carried w = record w { waiting = w.waiting ++ carried }
-
--- that these are the posts of an entry that go on the wire of a side, each CDC message with the plain snapshot of what was sent
-pub record AreCarried (setup : Setup) (payload : List ℕ) (x : Side) (e : Entry) (past : List Entry) (carried : List Carried) : Type 0 where
-  pub placed_are : map placed carried ≡ filter (λ c. is_on the_link x c.post) (numbered (next_number past) 1 e.posts)
-  pub plain : (s : ℕ) (o : Offered) → offered (other x) s past ≡ Some o → plains x o.offer.token carried ≡ shots (posts_of (terms_of setup) x (items payload 1 s e past) (part payload 1 s past))
-  pub new : (s : ℕ) (o : Offered) → offered (other x) s past ≡ None → offered (other x) s (e ∷ past) ≡ Some o → plains x o.offer.token carried ≡ []
 
 -- an untaken message is the next one of the history, and is about the link of its side's offer, where there is one
 pub record IsNext (x : Side) (s : ℕ) (past : List Entry) (next : Option Untaken) : Type 0 where
