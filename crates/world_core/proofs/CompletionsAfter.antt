@@ -1,5 +1,5 @@
 -- Both hosts after a completion: what the acting host keeps, what it posts, and what stays at its peer.
-use Rattle.std.proofs.Common.{◌≡◌, ◌∙◌, ℕ, ◌+◌, ◌≤◌, ◌<◌, ◌^◌, List, [], ◌∷◌, ◌++◌, length, filter, refl, ap, sym, subst, true≢false}
+use Rattle.std.proofs.Common.{true≢false, ◌≡◌, ◌∙◌, ℕ, ◌+◌, ◌≤◌, ◌<◌, ◌^◌, List, [], ◌∷◌, ◌++◌, length, filter, refl, ap, sym, subst}
 use Rattle.std.proofs.lemmas.List.{length-reverse}
 use Rattle.std.specs.Prelude.{Some, None}
 use Rattle.smc_num.specs.declared.Side.{Side}
@@ -36,7 +36,7 @@ use Rattle.world_core.specs.Landed.{buffer_of}
 use Rattle.world_core.specs.Steps.{entry_of}
 use Rattle.world_core.specs.Sending.{carried_from, goes_on_wire, moved, puts_all, MaySendAll}
 use Rattle.world_core.specs.Hosts.{AreHosts, AreHostsAfter, IsHostAfter, IsWireAfter, IsPlayedBy, past_of, with_posts}
-use Rattle.world_core.proofs.HostsKept.{if-none, unposted, stands-on, hosts-after, played-now}
+use Rattle.world_core.proofs.HostsAfter.{if-none, unposted, stands-on, played-now, hosts-after}
 use Rattle.world_core.proofs.AllLendings.{has-lendings}
 use Rattle.world_core.proofs.StreamsAfter.{Flowing, own-flows, their-flows}
 use Rattle.world_core.proofs.ClcPosts.{no-clc-posts, none-put}
@@ -75,7 +75,7 @@ module _ (setup : Setup) (payload : List ℕ) (past : List Entry) (heard : ℕ) 
   Then = manager_of setup payload (buffer_of setup payload x (entry_of setup payload past heard actor (Complete 1 x) ∷ past) ∷ []) x (entry_of setup payload past heard actor (Complete 1 x) ∷ past)
 
   play : IsPlayed setup payload (entry_of setup payload past heard actor (Complete 1 x) ∷ past) (heard + handed (told setup payload past (Complete 1 x)))
-  play = played-now setup payload past heard x h k before few (Complete 1 x) refl actor
+  play = played-now setup payload before.set past heard before.played (Complete 1 x) refl actor
 
   lent-after : HasLendings setup payload (entry_of setup payload past heard actor (Complete 1 x) ∷ past)
   lent-after = let set = before.set in has-lendings setup set.one payload (entry_of setup payload past heard actor (Complete 1 x) ∷ past) (heard + handed (told setup payload past (Complete 1 x))) play
@@ -110,14 +110,14 @@ module _ (setup : Setup) (payload : List ℕ) (past : List Entry) (heard : ℕ) 
         wire = subst (λ (w : Queues). IsWireAfter setup payload x (entry_of setup payload past heard actor (Complete 1 x) ∷ past) w) (sym wire_is)
             (wire-own setup set.one payload Now past Heard play lent-after x refl (buffer_of setup payload x (entry_of setup payload past heard actor (Complete 1 x) ∷ past) ∷ []) h.wire own.wire);
         sockets = ap (λ (fs : List Outflow). length fs) (flows_are ∙ same) ∙ own.sockets;
-        flows = subst (λ (fs : List Outflow). Flowing setup set.one payload x (entry_of setup payload past heard actor (Complete 1 x) ∷ past) fs) (sym flows_are)
+        flows = subst (λ (fs : List Outflow). Flowing payload setup.sockets x (entry_of setup payload past heard actor (Complete 1 x) ∷ past) fs) (sym flows_are)
             (own-flows setup set.one payload Now past Heard play h.flows.items own.sockets own.flows (λ s. not-written payload x x s (completed_told (completing 1 x past)) past));
       }
 
   pub both-hosts : (g : Host) → manager_of setup payload (buffer_of setup payload (other x) past ∷ []) (other x) (Now ∷ past) ≡ manager_of setup payload (buffer_of setup payload (other x) past ∷ []) (other x) past
       → StandsFor g.core Then → g.wire ≡ with_posts (carried_from Then (next_number past) 1 (posted setup payload past heard (Complete 1 x))) (moved x (Complete 1 x) h.wire)
       → g.flows.items ≡ puts_all (posted setup payload past heard (Complete 1 x)) h.flows.items → AreHostsAfter setup payload (Now ∷ past) Heard x g k
-  both-hosts g kept stands wire_is flows_are = hosts-after setup payload past heard x h k before few (Complete 1 x) refl actor g k (own-host g stands wire_is flows_are) (their-host kept)
+  both-hosts g kept stands wire_is flows_are = hosts-after setup payload before.set past heard before.played (Complete 1 x) refl actor few x g k (own-host g stands wire_is flows_are) (their-host kept)
 
 -- a played completion
 module _ (at : Moment) (x : Side) (h k : Host) (hosts : AreHosts at x h k) (few : length at.history.now < 2 ^ 18) where

@@ -1,5 +1,5 @@
 -- Both hosts after a landing: what the peer of the sender takes, what it posts, and what stays at the sender.
-use Rattle.std.proofs.Common.{◌≡◌, ◌∙◌, inl, inr, ℕ, ◌+◌, ◌≤◌, ◌<◌, ◌^◌, true, if◌then◌else◌, List, [], ◌∷◌, length, filter, refl, ap, sym, subst, true≢false}
+use Rattle.std.proofs.Common.{true≢false, ◌≡◌, ◌∙◌, inl, inr, ℕ, ◌+◌, ◌≤◌, ◌<◌, ◌^◌, true, if◌then◌else◌, List, [], ◌∷◌, length, filter, refl, ap, sym, subst}
 use Rattle.std.proofs.lemmas.List.{length-reverse}
 use Rattle.std.specs.Prelude.{Option, Some, None, option_and_then, is_some}
 use Rattle.smc_num.specs.declared.Side.{Side}
@@ -37,15 +37,11 @@ use Rattle.world_core.specs.Leaving.{with_wire}
 use Rattle.world_core.specs.Landed.{buffer_of}
 use Rattle.world_core.specs.Steps.{entry_of}
 use Rattle.world_core.specs.Sending.{carried_from, goes_on_wire, moved, puts_all, MaySendAll}
-use Rattle.world_core.specs.Hosts.{AreHosts, AreHostsAfter, IsHostAfter, IsWireAfter, IsPlayedBy, past_of, with_posts}
-use Rattle.world_core.proofs.HostsKept.{if-none, unposted, buffer-kept, hosts-after, played-now}
+use Rattle.world_core.specs.Hosts.{AreHosts, AreHostsAfter, IsHostAfter, IsPlayedBy, past_of, with_posts}
+use Rattle.world_core.proofs.HostsAfter.{if-none, unposted, stands-on, played-now, may-after, room-after, streams-after, sent-after, kept-after, hosts-after}
 use Rattle.world_core.proofs.AllLendings.{has-lendings}
-use Rattle.world_core.proofs.StreamsAfter.{Flowing, own-flows, their-flows}
-use Rattle.world_core.proofs.ClcPosts.{no-clc-posts, none-put}
-use Rattle.world_core.proofs.OwnWires.{wire-own, room-own, each-aimed}
-use Rattle.world_core.proofs.DataSends.{data-may-go}
+use Rattle.world_core.proofs.StreamsAfter.{Flowing, their-flows}
 use Rattle.world_core.proofs.WriteEnds.{buffer-stays}
-use Rattle.world_core.proofs.WiresAfter.{wire-theirs}
 use Rattle.world_core.proofs.WireMoves.{only-of}
 use Rattle.world_core.proofs.MovedWires.{deliver-own, deliver-else}
 use Rattle.world_core.proofs.CallEntries.{IsNothing}
@@ -92,10 +88,7 @@ module _ (setup : Setup) (payload : List ℕ) (past : List Entry) (heard : ℕ) 
   Taker = manager_of setup payload (buffer_of setup payload (other x) (entry_of setup payload past heard actor (Deliver 1 x) ∷ past) ∷ []) (other x) (entry_of setup payload past heard actor (Deliver 1 x) ∷ past)
 
   pub play : IsPlayed setup payload (entry_of setup payload past heard actor (Deliver 1 x) ∷ past) (heard + handed (told setup payload past (Deliver 1 x)))
-  play = played-now setup payload past heard x h k before few (Deliver 1 x) refl actor
-
-  pub lent-after : HasLendings setup payload (entry_of setup payload past heard actor (Deliver 1 x) ∷ past)
-  lent-after = let set = before.set in has-lendings setup set.one payload (entry_of setup payload past heard actor (Deliver 1 x) ∷ past) (heard + handed (told setup payload past (Deliver 1 x))) play
+  play = played-now setup payload before.set past heard before.played (Deliver 1 x) refl actor
 
   -- one lands for the side that delivers
   pub one-lands : (c : Placed) → landing 1 x past ≡ Some c → Landed c.at ≡ deliver_told setup payload (other x) past (landing 1 x past) → landing_now the_link x (entry_of setup payload past heard actor (Deliver 1 x)) past ≡ 1
@@ -104,44 +97,32 @@ module _ (setup : Setup) (payload : List ℕ) (past : List Entry) (heard : ℕ) 
       ap (λ r. if_latest the_link past (lands_on x 1 (Deliver 1 x) r)) (sym is)
       ∙ (ap (λ n. if_latest the_link past n) (one-on x c.at) ∙ ap (λ b. if b then 1 else 0) (latest-where x past c (only-of setup set.one payload past heard before.played) next))
 
-  -- the RMB of the sender stays
-  own-buffer : buffer_of setup payload x (Now ∷ past) ≡ buffer_of setup payload x past
-  own-buffer = buffer-kept setup payload past Now x (ap (λ n. if_latest the_link past n) (none-on x (deliver_told setup payload (other x) past (landing 1 x past))) ∙ if-none past)
-
   -- the sender's host, whose post has left its wire
   sender-host : (g : Host) (m : Manager Half) → manager_of setup payload (buffer_of setup payload x past ∷ []) x (Now ∷ past) ≡ m → StandsFor g.core m → g.wire ≡ moved x (Deliver 1 x) h.wire → g.flows.items ≡ h.flows.items
       → IsHostAfter setup payload x (Now ∷ past) g
   sender-host g m is stands wire_is flows_are =
       let own = before.own in
-      let set = before.set in record {
-        side = subst (λ (b : Buffer). StandsFor g.core (manager_of setup payload (b ∷ []) x (entry_of setup payload past heard actor (Deliver 1 x) ∷ past))) (sym own-buffer) (subst (λ (n : Manager Half). StandsFor g.core n) (sym is) stands);
-        wire = subst (λ (w : Queues). IsWireAfter setup payload x (entry_of setup payload past heard actor (Deliver 1 x) ∷ past) w) (sym wire_is) (wire-theirs setup set.one payload Now past Heard play x refl h.wire own.wire);
-        sockets = ap (λ (fs : List Outflow). length fs) flows_are ∙ own.sockets;
-        flows = subst (λ (fs : List Outflow). Flowing setup set.one payload x (entry_of setup payload past heard actor (Deliver 1 x) ∷ past) fs) (sym flows_are)
-            (their-flows setup set.one payload Now past Heard play x refl h.flows.items (λ s. refl) (λ s. refl) own.flows);
-      }
+      let set = before.set in
+      kept-after setup payload set past heard before.played (Deliver 1 x) refl actor x refl h g own
+      (stands-on setup payload past Now x g.core m (ap (λ n. if_latest the_link past n) (none-on x (deliver_told setup payload (other x) past (landing 1 x past))) ∙ if-none past) is stands) wire_is
+      (ap (λ (fs : List Outflow). length fs) flows_are ∙ own.sockets)
+      (subst (λ (fs : List Outflow). Flowing payload setup.sockets x (entry_of setup payload past heard actor (Deliver 1 x) ∷ past) fs) (sym flows_are)
+      (their-flows setup set.one payload Now past Heard play x refl h.flows.items (λ s. refl) (λ s. refl) own.flows))
 
   -- the host of its peer, after it has sent what is posted
   taker-host : (g : Host) → StandsFor g.core Taker → g.wire ≡ with_posts (carried_from Taker (next_number past) 1 (posted setup payload past heard (Deliver 1 x))) k.wire → g.flows.items ≡ puts_all (posted setup payload past heard (Deliver 1 x)) k.flows.items
       → IsHostAfter setup payload (other x) (Now ∷ past) g
   taker-host g stands wire_is flows_are =
       let theirs = before.theirs in
-      let set = before.set in
-      let same = none-put (posted setup payload past heard (Deliver 1 x)) k.flows.items (no-clc-posts setup set.one payload Now past Heard play refl) in record {
-        side = stands;
-        wire = subst (λ (w : Queues). IsWireAfter setup payload (other x) (entry_of setup payload past heard actor (Deliver 1 x) ∷ past) w)
-            (ap (λ (w : Queues). with_posts (carried_from Taker (next_number past) 1 (posted setup payload past heard (Deliver 1 x))) w) (deliver-else x 1 k.wire) ∙ sym wire_is)
-            (wire-own setup set.one payload Now past Heard play lent-after (other x) refl (buffer_of setup payload (other x) (entry_of setup payload past heard actor (Deliver 1 x) ∷ past) ∷ []) k.wire theirs.wire);
-        sockets = ap (λ (fs : List Outflow). length fs) (flows_are ∙ same) ∙ theirs.sockets;
-        flows = subst (λ (fs : List Outflow). Flowing setup set.one payload (other x) (entry_of setup payload past heard actor (Deliver 1 x) ∷ past) fs) (sym flows_are)
-            (own-flows setup set.one payload Now past Heard play k.flows.items theirs.sockets theirs.flows (λ s. not-written payload (other x) x s (deliver_told setup payload (other x) past (landing 1 x past)) past));
-      }
+      let flows = streams-after setup payload before.set past heard before.played (Deliver 1 x) refl actor k theirs (λ s. not-written payload (other x) x s (deliver_told setup payload (other x) past (landing 1 x past)) past) g.flows.items flows_are in
+      sent-after setup payload before.set past heard before.played (Deliver 1 x) refl actor k g theirs stands (buffer_of setup payload (other x) (entry_of setup payload past heard actor (Deliver 1 x) ∷ past) ∷ []) Taker refl
+      (posted setup payload past heard (Deliver 1 x)) refl k.wire (sym (deliver-else x 1 k.wire)) wire_is flows.0 flows.1
 
   pub both-hosts : (g l : Host) (m : Manager Half) → manager_of setup payload (buffer_of setup payload x past ∷ []) x (Now ∷ past) ≡ m → StandsFor g.core m → g.wire ≡ moved x (Deliver 1 x) h.wire → g.flows.items ≡ h.flows.items
       → StandsFor l.core Taker → l.wire ≡ with_posts (carried_from Taker (next_number past) 1 (posted setup payload past heard (Deliver 1 x))) k.wire → l.flows.items ≡ puts_all (posted setup payload past heard (Deliver 1 x)) k.flows.items
       → AreHostsAfter setup payload (Now ∷ past) Heard x g l
   both-hosts g l m is stands wire_is flows_are takes taker_wire taker_flows =
-      hosts-after setup payload past heard x h k before few (Deliver 1 x) refl actor g l (sender-host g m is stands wire_is flows_are) (taker-host l takes taker_wire taker_flows)
+      hosts-after setup payload before.set past heard before.played (Deliver 1 x) refl actor few x g l (sender-host g m is stands wire_is flows_are) (taker-host l takes taker_wire taker_flows)
 
 -- a played landing
 module _ (at : Moment) (x : Side) (h k : Host) (hosts : AreHosts at x h k) (few : length at.history.now < 2 ^ 18) where
@@ -218,21 +199,12 @@ module _ (at : Moment) (x : Side) (h k : Host) (hosts : AreHosts at x h k) (few 
     pub may-be-sent : MaySendAll (length k.flows.items) v posts
     may-be-sent =
         let theirs = hosts.theirs in
-        let set = hosts.set in
-        let n : ℕ = at.heard + handed (told S P Past (Deliver 1 x)) in
-        let p = play S P Past at.heard x h k hosts few-before 0 in
-        let lendings = lent-after S P Past at.heard x h k hosts few-before 0 in
-        subst (λ n. MaySendAll n v posts) (sym theirs.sockets) (subst (λ (ps : List Post). MaySendAll S.sockets v ps) (sym posts_now)
-        (data-may-go S.sockets v Posts (each-aimed S set.one P (After 0) Past n p lendings (other x) refl (buffer_of S P (other x) (After 0 ∷ Past) ∷ []) v (stands 0)) (no-clc-posts S set.one P (After 0) Past n p refl)))
+        may-after S P hosts.set Past at.heard hosts.played (Deliver 1 x) refl 0 few-before (buffer_of S P (other x) (After 0 ∷ Past) ∷ []) v (stands 0) posts posts_now (length k.flows.items) theirs.sockets
 
     pub has-room : length (filter goes_on_wire posts) ≤ room_of k.wire
     has-room =
         let theirs = hosts.theirs in
-        let set = hosts.set in
-        let n : ℕ = at.heard + handed (told S P Past (Deliver 1 x)) in
-        let p = play S P Past at.heard x h k hosts few-before 0 in
-        subst (λ (ps : List Post). length (filter goes_on_wire ps) ≤ room_of k.wire) (sym posts_now)
-        (subst (λ (w : Queues). length (filter goes_on_wire Posts) ≤ room_of w) (deliver-else x 1 k.wire) (room-own S set.one P (After 0) Past n p (other x) refl k.wire theirs.wire))
+        subst (λ (w : Queues). length (filter goes_on_wire posts) ≤ room_of w) (deliver-else x 1 k.wire) (room-after S P hosts.set Past at.heard hosts.played (Deliver 1 x) refl 0 k.wire theirs.wire posts posts_now)
 
     pub sent-landing : (w : Queues) (m : Manager Half) (reply : Reply) → reply ≡ deliver_told S P (other x) Past (landing 1 x Past) → w ≡ with_landed (would_land h.wire) h.wire
         → ((actor : ℕ) → manager_of S P OwnRegions x (After actor ∷ Past) ≡ m) → StandsFor h.core m → (l : Host) (entry : ℕ) → entry ≡ length at.history.now + 1 → l.core ≡ v

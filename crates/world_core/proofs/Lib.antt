@@ -55,7 +55,7 @@ pub mod Handshaken
 pub mod Handshakes
 pub mod Heads
 pub mod HomeLandings
-pub mod HostsKept
+pub mod HostsAfter
 pub mod HostsOn
 pub mod HostsSwapped
 pub mod Idle

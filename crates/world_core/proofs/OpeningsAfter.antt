@@ -1,6 +1,5 @@
 -- What the opening of a socket makes of both hosts: nothing where it was opened before, or its ends begin their handshakes, or fall back.
-use Rattle.std.proofs.Common.{◌≡◌, ◌∙◌, ℕ, ◌+◌, ◌<◌, ◌≤◌, ◌^◌, ◌&&◌, ◌||◌, not, Bool, true, false, if◌then◌else◌, List, [], ◌∷◌, ◌++◌, length, filter, slice_index_or, refl, ap, sym, subst, arith}
-use Rattle.std.proofs.lemmas.Bool.{true≢false}
+use Rattle.std.proofs.Common.{true≢false, ◌≡◌, ◌∙◌, ℕ, ◌+◌, ◌<◌, ◌^◌, ◌&&◌, ◌||◌, not, Bool, true, false, if◌then◌else◌, List, [], ◌∷◌, ◌++◌, length, slice_index_or, refl, ap, sym, subst}
 use Rattle.smc_num.specs.declared.Side.{Side}
 use Rattle.smc_num.specs.declared.Side.TheVariants.{A, B}
 use Rattle.rmb_region.specs.Regions.{Buffer}
@@ -20,7 +19,7 @@ use Rattle.pipe_model.specs.Replies.{open_told}
 use Rattle.pipe_model.specs.Lawful.{posted}
 use Rattle.conn_end.specs.Kept.{Kept}
 use Rattle.clc_handshake.specs.Stages.{first_state}
-use Rattle.rc_link.specs.Wire.{Queues, room_of}
+use Rattle.rc_link.specs.Wire.{Queues}
 use Rattle.side_core.specs.Desk.{Desk}
 use Rattle.side_core.specs.Landing.{falls_at, opens_at, opening_posts}
 use Rattle.side_core.specs.Manager.{Manager, StandsFor, state_at}
@@ -29,7 +28,7 @@ use Rattle.world_core.specs.Played.{IsPlayed}
 use Rattle.world_core.specs.Landed.{buffer_of}
 use Rattle.world_core.specs.Sockets.{Socket, Unopened, Fallen, Proposed, Refused, FirstAccepted, FirstConfirmed, AwaitsLink, FirstUpAtA, FirstUp, Accepted, AcceptRefused, AcceptFallen, Confirmed, Up, HasSocket, HasWorld, opened_at, end_at}
 use Rattle.world_core.specs.Managers.{manager_of}
-use Rattle.world_core.specs.Sending.{carried_from, goes_on_wire, moved, puts_all, MaySendAll}
+use Rattle.world_core.specs.Sending.{carried_from, moved, puts_all}
 use Rattle.world_core.specs.Handing.{has_end}
 use Rattle.world_core.specs.Steps.{entry_of}
 use Rattle.world_core.specs.Hosts.{AreHostsAfter, IsHostAfter, with_posts}
@@ -45,10 +44,10 @@ use Rattle.world_core.proofs.Handshaken.{shaken}
 use Rattle.world_core.proofs.Lendings.{lent-to-up}
 use Rattle.world_core.proofs.TakenMessages.{end-is}
 use Rattle.world_core.proofs.EndRecords.{state-is}
-use Rattle.world_core.proofs.HostsKept.{if-none}
-use Rattle.world_core.proofs.HostsOn.{Flowing, PlaysBy, own-sent, own-kept, theirs-then, both-then, turned, stood}
+use Rattle.world_core.proofs.HostsAfter.{if-none, hosts-after}
+use Rattle.world_core.proofs.HostsOn.{PlaysBy, own-sent, own-kept, theirs-then, turned, stood}
 use Rattle.world_core.proofs.AllLendings.{has-lendings}
-use Rattle.world_core.proofs.StreamsAfter.{their-flows}
+use Rattle.world_core.proofs.StreamsAfter.{Flowing, their-flows}
 
 -- a socket has an end at the client just where it was opened
 end-there : (k : Socket) → has_end (end_at k A) ≡ opened_at k
@@ -121,18 +120,12 @@ module _ (setup : Setup) (payload : List ℕ) (past : List Entry) (heard s : ℕ
   pub socket-at-server : s < length server.core.hands
   socket-at-server = let theirs = before.theirs in stood setup payload (buffer_of setup payload B past ∷ []) B past server.core theirs.side s known
 
-  pub client-side : client.core.desk.side ≡ A
-  client-side = let own = before.own in let st = own.side in let w = st.works in ap (λ (d : Desk). d.side) w.desk
-
   module _ (new : has_end (state_at s client.core) ≡ false) where
     unopened : is_opened s past ≡ false
     unopened = sym there-is ∙ new
 
     none-before : (x : Side) → end_state x s past ≡ NoEnd
     none-before x = end-is setup place.at s past place.stands x ∙ none-there place.at (sym opened-is ∙ unopened) x
-
-    pub none-at-client : state_at s client.core ≡ NoEnd
-    none-at-client = client-is ∙ none-before A
 
     pub none-at-server : state_at s server.core ≡ NoEnd
     none-at-server = server-is ∙ none-before B
@@ -152,9 +145,6 @@ module _ (setup : Setup) (payload : List ℕ) (past : List Entry) (heard s : ℕ
 
   silent-by : (t : ℕ) (reply : Reply) → written payload A t (Open s) reply past ≡ []
   silent-by t reply = refl
-
-  abbrev Entry-now : ℕ → Entry
-  Entry-now actor = entry_of setup payload past heard actor (Open s)
 
   plays : (actor : ℕ) (reply : Reply) → open_told setup s past ≡ reply → IsPlayed setup payload (entry-of actor (Open s) reply (posted setup payload past heard (Open s)) ∷ past) (heard + 0)
   plays actor reply e = (heard, record { built = known; reply = sym e; posts = refl }, refl, before.played)
@@ -195,7 +185,7 @@ module _ (setup : Setup) (payload : List ℕ) (past : List Entry) (heard s : ℕ
         after = λ actor.
             let of-a = nothing (buffer_of setup payload A past ∷ []) actor in
             let of-b = nothing (buffer_of setup payload B past ∷ []) actor in
-            both-then setup payload past heard (Open s) client server before few known lands-none unmoved-by silent-by actor client server
+            hosts-after setup payload before.set past heard before.played (Open s) known actor few A client server
             (own-kept setup payload past heard (Open s) client server before few known lands-none unmoved-by silent-by actor client (subst (λ (m : Manager Half). StandsFor client.core m) (sym (of-a.kept A)) own.side) of-a.posts refl refl)
             (server-then actor server (subst (λ (m : Manager Half). StandsFor server.core m) (sym (of-b.kept B)) theirs.side) refl refl);
       }
@@ -217,7 +207,7 @@ module _ (setup : Setup) (payload : List ℕ) (past : List Entry) (heard s : ℕ
         after = λ actor.
             let of-a = set-so (buffer_of setup payload A past ∷ []) actor in
             let of-b = set-so (buffer_of setup payload B past ∷ []) actor in
-            both-then setup payload past heard (Open s) client server before few known lands-none unmoved-by silent-by actor g l
+            hosts-after setup payload before.set past heard before.played (Open s) known actor few A g l
             (own-kept setup payload past heard (Open s) client server before few known lands-none unmoved-by silent-by actor g (subst (λ (m : Manager Half). StandsFor g.core m) (sym (of-a.both A)) (falls _ own.side)) of-a.posts_are wire flows)
             (server-then actor l (subst (λ (m : Manager Half). StandsFor l.core m) (sym (of-b.both B)) (falls-too _ theirs.side)) wire-too flows-too);
       }
@@ -232,14 +222,6 @@ module _ (setup : Setup) (payload : List ℕ) (past : List Entry) (heard s : ℕ
       let c = a.works in
       let d = b.works in
       is ∙ (ap (λ (k : Desk). ([] ++ opening_posts s k) ++ opening_posts s server.core.desk) c.desk ∙ ap (λ (k : Desk). ([] ++ (proposal_post setup s ∷ [])) ++ opening_posts s k) d.desk)
-
-  -- that it may be sent
-  pub may-propose : (v : Manager Kept) (posts : List Post) → posts ≡ proposal_post setup s ∷ [] → MaySendAll (length client.flows.items) v posts × (length (filter goes_on_wire posts) ≤ room_of client.wire)
-  may-propose v posts is =
-      let own = before.own in (
-        subst (λ ps. MaySendAll (length client.flows.items) v ps) (sym is) ((subst (λ n. s < n) (sym own.sockets) known, tt), tt),
-        subst (λ ps. length (filter goes_on_wire ps) ≤ room_of client.wire) (sym is) (omega arith),
-      )
 
   -- the handshake begins
   pub begun : has_end (state_at s client.core) ≡ false → (a-is && b-is) ≡ true → (posts : List Post) → posts ≡ (([] ++ opening_posts s client.core.desk) ++ opening_posts s server.core.desk) → (number : ℕ) → number ≡ next_number past → (v : Manager Kept) (g l : Host)
@@ -259,7 +241,7 @@ module _ (setup : Setup) (payload : List ℕ) (past : List Entry) (heard s : ℕ
         after = λ actor.
             let of-a = set-so (buffer_of setup payload A past ∷ []) actor in
             let of-b = set-so (buffer_of setup payload B past ∷ []) actor in
-            both-then setup payload past heard (Open s) client server before few known lands-none unmoved-by silent-by actor g l
+            hosts-after setup payload before.set past heard before.played (Open s) known actor few A g l
             (own-sent setup payload past heard (Open s) client server before few known lands-none unmoved-by silent-by actor g (subst (λ (m : Manager Half). StandsFor g.core m) (sym (of-a.both A)) (subst (λ w. StandsFor w (opens_at s false (manager_of setup payload (buffer_of setup payload A past ∷ []) A past))) (sym core) (opens _ own.side))) posts posts-so number n
             (λ m st. wire m (subst (λ w. StandsFor w m) core st)) flows)
             (server-then actor l (subst (λ (m : Manager Half). StandsFor l.core m) (sym (of-b.both B)) (opens-too _ theirs.side)) wire-too flows-too);

@@ -95,7 +95,7 @@ module _ (at : Moment) (end : End) (len : ℕ) (own theirs : Host) (hosts : AreH
   few-past = let e : length Before ≡ length at.history.now = length-reverse at.history.now in omega (arith, e, few)
 
   is-read : IsCall Event_is
-  is-read = record { posts_none = refl; lands_none = λ y reply. refl; moves_none = λ y w. refl }
+  is-read = record { lands_none = λ y reply. refl; moves_none = λ y w. refl }
 
   abbrev E : ℕ → Entry
   E actor = entry_by at.setup.now at.payload.now Before at.heard Event_is own theirs hosts few-past socket actor
@@ -244,8 +244,8 @@ module _ (at : Moment) (end : End) (len : ℕ) (own theirs : Host) (hosts : AreH
         after = λ actor.
             idle-after at.setup.now at.payload.now Before at.heard Event_is own theirs hosts few-past socket is-read actor (nothing down actor) own peers refl refl core wire
             o.sockets (ap (λ (fs : List Outflow). length fs) gives ∙ (long (fallen_read false bytes len Open) ∙ t.sockets))
-            (mine-flows at.setup.now at.payload.now Before at.heard Event_is own theirs hosts few-past socket is-read actor (writes-nothing actor))
-            (subst (λ (fs : List Outflow). Flowing at.setup.now one at.payload.now (other end.side) (E actor ∷ Before) fs) (sym gives)
+            (let none = nothing down actor [] in mine-flows at.setup.now at.payload.now Before at.heard Event_is own theirs hosts few-past socket is-read actor none.posts (writes-nothing actor))
+            (subst (λ (fs : List Outflow). Flowing at.payload.now at.setup.now.sockets (other end.side) (E actor ∷ Before) fs) (sym gives)
             (flowing actor fell (fallen_read false bytes len Open) told-now (quiet-told bytes len)));
       }
     where
@@ -254,7 +254,7 @@ module _ (at : Moment) (end : End) (len : ℕ) (own theirs : Host) (hosts : AreH
       long (Hands bytes) = length-set theirs.flows.items end.s (gives_out (length bytes) (outflow_at end.s theirs.flows.items))
 
       flowing : (actor : ℕ) → is_fallen end.side end.s Before ≡ true → (t : Told) → told at.setup.now at.payload.now Before Event_is ≡ t → IsQuietTold t
-          → Flowing at.setup.now one at.payload.now (other end.side) (E actor ∷ Before) (hands_over end.s t theirs.flows.items)
+          → Flowing at.payload.now at.setup.now.sockets (other end.side) (E actor ∷ Before) (hands_over end.s t theirs.flows.items)
       flowing actor fell (Plain reply) e quiet =
           let f = hosts.theirs in
           let q = plays at.setup.now at.payload.now Before at.heard Event_is own theirs hosts few-past socket actor in

@@ -26,8 +26,7 @@ use Rattle.pipe_model.specs.Calls.{Writes}
 use Rattle.pipe_model.specs.Fallback.{clc_in, fallen_write, front_length, is_fallen, read_out, stream, stream_room, takes_clc, takes_message, untaken, written}
 use Rattle.pipe_model.specs.Lawful.{reply_of}
 use Rattle.tcp_pipe.specs.Streams.{Direction, free}
-use Rattle.world_core.specs.Played.{IsBuilt, IsMade, IsOneLink, IsPlayed, handed}
-use Rattle.world_core.specs.Steps.{entry_of}
+use Rattle.world_core.specs.Played.{IsBuilt, IsMade, IsOneLink, IsPlayed}
 use Rattle.pipe_model.specs.Replies.{told}
 use Rattle.world_core.specs.Hosts.{IsStreamAfter}
 use Rattle.world_core.specs.Sending.{acting_side, outflow_at, puts, puts_all, still, takes_next}
@@ -37,11 +36,6 @@ use Rattle.world_core.specs.declared.host.Outflow.{Outflow}
 use Rattle.world_core.proofs.ClcLengths.{IsMeasured, measured-new}
 use Rattle.world_core.proofs.ClcPosts.{IsAsked, News, NoClc, NoNews, OneNews, Puts, PutsNone, PutsOne, news, no-clc-posts, none-in, none-offered, none-put, one-in, puts as puts-of}
 use Rattle.world_core.proofs.StreamFronts.{apart-sides, clc-writes, complete-writes, deliver-writes, fallen-call-told, fallen-heard-all, few-untaken, flowed, flowed-is, front-is-untaken, front-whole, not-other, open-writes, other-other, plus-none, put-of, read-by, read-writes, same-itself, taken-of, told-is, waits-is, written-by, wrote-is, zero-plus}
-
--- the entry of an event that is built is played
-pub entry-played : (setup : Setup) (payload : List ℕ) (past : List Entry) (before actor : ℕ) (event : Event) → IsBuilt setup (length payload) event → IsPlayed setup payload past before
-    → IsPlayed setup payload (entry_of setup payload past before actor event ∷ past) (before + handed (told setup payload past event))
-entry-played setup payload past before actor event built q = (before, record { built = built; reply = refl; posts = refl }, refl, q)
 
 -- a post that is no message of a side on a socket makes no offer for it
 no-offer-apart : (x : Side) (s : ℕ) (y : Side) (t : ℕ) (link : Option LinkId) (m : ClcMessage) → (same_side x y && (s == t)) ≡ false → offer_in x s (Clc y t link m) ≡ None
@@ -68,11 +62,6 @@ no-offers-in x s (Clc y t link m ∷ posts) e = by (same_side x y && (s == t)) r
         ap (λ o. cons_option o (filter_map (offer_in x s) posts)) (no-offer-apart x s y t link m f)
         ∙ rest (sym (ap (λ b. cons_option (if b then Some m else None) (filter_map (clc_in x s) posts)) f) ∙ e)
 
--- that a post, where it is a CLC message, is of a socket that there is
-abbrev pub IsOnSocket : Setup → Post → Type 0
-IsOnSocket setup (Clc from s link m) = s < setup.sockets
-IsOnSocket setup _ = Unit {0}
-
 -- an empty stream has room for a message
 whole-in : (held bytes : List ℕ) → held ≡ [] → length bytes ≤ stream_room → held ++ take (stream_room - length held) bytes ≡ bytes
 whole-in held bytes e fits = ap (λ bs. bs ++ take (stream_room - length bs) bytes) e ∙ take_all stream_room bytes fits
@@ -89,11 +78,11 @@ and-else : (b : Bool) → (b && false) ≡ false
 and-else true = refl
 and-else false = refl
 
-module _ (setup : Setup) (one : IsOneLink setup) (payload : List ℕ) where
-  -- the streams of a side after a history
-  abbrev pub Flowing : Side → List Entry → List Outflow → Type 0
-  Flowing x past flows = (s : ℕ) → s < setup.sockets → IsStreamAfter payload x s past (outflow_at s flows)
+-- the streams of a side after a history
+abbrev pub Flowing : List ℕ → ℕ → Side → List Entry → List Outflow → Type 0
+Flowing payload sockets x past flows = (s : ℕ) → s < sockets → IsStreamAfter payload x s past (outflow_at s flows)
 
+module _ (setup : Setup) (one : IsOneLink setup) (payload : List ℕ) where
   -- one stream in a list is another than before
   at-same : (flows : List Outflow) (t s : ℕ) (f : Outflow) → (s == t) ≡ true → t < length flows → outflow_at s (slice_set flows t f) ≡ f
   at-same flows t s f e low = ap (λ r. outflow_at r (slice_set flows t f)) (eqb-true s t e) ∙ get_or-set_same flows t f still low
@@ -187,14 +176,14 @@ module _ (setup : Setup) (one : IsOneLink setup) (payload : List ℕ) where
         }
 
     -- the streams of the side that acts, where its application writes nothing
-    pub own-flows : (flows : List Outflow) → length flows ≡ setup.sockets → Flowing (acting_side e.event) past flows → ((s : ℕ) → written payload (acting_side e.event) s e.event e.reply past ≡ [])
-        → Flowing (acting_side e.event) (e ∷ past) (puts_all e.posts flows)
+    pub own-flows : (flows : List Outflow) → length flows ≡ setup.sockets → Flowing payload setup.sockets (acting_side e.event) past flows → ((s : ℕ) → written payload (acting_side e.event) s e.event e.reply past ≡ [])
+        → Flowing payload setup.sockets (acting_side e.event) (e ∷ past) (puts_all e.posts flows)
     own-flows flows long are w = by (puts-of setup one payload e past n p)
       where
         x : Side
         x = acting_side e.event
 
-        by : Puts setup payload e past → Flowing x (e ∷ past) (puts_all e.posts flows)
+        by : Puts setup payload e past → Flowing payload setup.sockets x (e ∷ past) (puts_all e.posts flows)
         by (PutsNone none) s low =
             subst (λ (fs : List Outflow). IsStreamAfter payload x s (e ∷ past) (outflow_at s fs)) (sym (none-put e.posts flows none))
             (stays x s (outflow_at s flows) (own-takes s) (own-reads s) (none-in x s e.posts none) (w s) (are s low))
@@ -263,7 +252,7 @@ module _ (setup : Setup) (one : IsOneLink setup) (payload : List ℕ) where
 
     -- the streams of the peer of the side that acts, where nothing is taken out of them
     pub their-flows : (x : Side) → acting_side e.event ≡ other x → (flows : List Outflow) → ((s : ℕ) → takes_clc x s e.event e.reply ≡ false) → ((s : ℕ) → read_out x s e.event e.reply past ≡ 0)
-        → Flowing x past flows → Flowing x (e ∷ past) flows
+        → Flowing payload setup.sockets x past flows → Flowing payload setup.sockets x (e ∷ past) flows
     their-flows x acts flows t r are s low = stays x s (outflow_at s flows) (t s) (r s) (their-posts x s acts) (their-writes x s acts) (are s low)
 
     -- an application writes into the stream of an end that has fallen back
@@ -279,8 +268,8 @@ module _ (setup : Setup) (one : IsOneLink setup) (payload : List ℕ) where
         ∙ (ap (λ b. if b then put-of e.reply (drop at payload) else []) mine
         ∙ wrote-is payload at len (stream_room - length (stream payload end.side end.s past)) e.reply told))
 
-    pub own-written : (end : End) (at len : ℕ) → e.event ≡ Write end at len → is_fallen end.side end.s past ≡ true → (flows : List Outflow) → length flows ≡ setup.sockets → Flowing end.side past flows
-        → Flowing end.side (e ∷ past) (slice_set flows end.s (takes_in (take len (drop at payload)) (outflow_at end.s flows)))
+    pub own-written : (end : End) (at len : ℕ) → e.event ≡ Write end at len → is_fallen end.side end.s past ≡ true → (flows : List Outflow) → length flows ≡ setup.sockets → Flowing payload setup.sockets end.side past flows
+        → Flowing payload setup.sockets end.side (e ∷ past) (slice_set flows end.s (takes_in (take len (drop at payload)) (outflow_at end.s flows)))
     own-written end at len is f flows long are s low = by (s == end.s) refl
       where
         bytes : List ℕ
@@ -332,8 +321,8 @@ module _ (setup : Setup) (one : IsOneLink setup) (payload : List ℕ) where
             (are s low))
 
     -- the message that waits is taken out of the peer's stream
-    pub their-taken : (x : Side) (t : ℕ) (m : ClcMessage) → e.event ≡ ClcEvent t x → takes_message e.reply ≡ true → head (untaken x t past) ≡ Some m → (flows : List Outflow) → length flows ≡ setup.sockets → Flowing x past flows
-        → Flowing x (e ∷ past) (slice_set flows t (takes_next m (outflow_at t flows)))
+    pub their-taken : (x : Side) (t : ℕ) (m : ClcMessage) → e.event ≡ ClcEvent t x → takes_message e.reply ≡ true → head (untaken x t past) ≡ Some m → (flows : List Outflow) → length flows ≡ setup.sockets → Flowing payload setup.sockets x past flows
+        → Flowing payload setup.sockets x (e ∷ past) (slice_set flows t (takes_next m (outflow_at t flows)))
     their-taken x t m is takes first flows long are s low = by (s == t) refl
       where
         now : Outflow
@@ -385,8 +374,8 @@ module _ (setup : Setup) (one : IsOneLink setup) (payload : List ℕ) where
             (stays x s (outflow_at s flows) (takes-at s false g) (reads-none s) (their-posts x s acts) (their-writes x s acts) (are s low))
 
     -- an end that has fallen back reads out of its peer's stream
-    pub their-read : (end : End) (len from k : ℕ) → e.event ≡ Read end len → e.reply ≡ Bytes from k → is_fallen end.side end.s past ≡ true → (flows : List Outflow) → length flows ≡ setup.sockets → Flowing (other end.side) past flows
-        → Flowing (other end.side) (e ∷ past) (slice_set flows end.s (gives_out k (outflow_at end.s flows)))
+    pub their-read : (end : End) (len from k : ℕ) → e.event ≡ Read end len → e.reply ≡ Bytes from k → is_fallen end.side end.s past ≡ true → (flows : List Outflow) → length flows ≡ setup.sockets → Flowing payload setup.sockets (other end.side) past flows
+        → Flowing payload setup.sockets (other end.side) (e ∷ past) (slice_set flows end.s (gives_out k (outflow_at end.s flows)))
     their-read end len from k is told f flows long are s low = by (s == end.s) refl
       where
         x : Side
@@ -447,18 +436,3 @@ module _ (setup : Setup) (one : IsOneLink setup) (payload : List ℕ) where
         by false g =
             subst (λ (h : Outflow). IsStreamAfter payload x s (e ∷ past) h) (sym (at-other flows end.s s now g))
             (stays x s (outflow_at s flows) (takes-none s) (reads-at s false g) (their-posts x s acts) (their-writes x s acts) (are s low))
-
-    -- each CLC message that is posted is of a socket that there is
-    pub posts-on-sockets : EachPost (IsOnSocket setup) e.posts
-    posts-on-sockets = by (puts-of setup one payload e past n p)
-      where
-        none-is : (posts : List Post) → EachPost NoClc posts → EachPost (IsOnSocket setup) posts
-        none-is [] none = tt
-        none-is (WritePost from link key address len ∷ posts) none = (tt, none-is posts none.1)
-        none-is (Cdc from link m ∷ posts) none = (tt, none-is posts none.1)
-        none-is (Llc from link m ∷ posts) none = (tt, none-is posts none.1)
-        none-is (Clc from t link m ∷ posts) none = absurd none.0
-
-        by : Puts setup payload e past → EachPost (IsOnSocket setup) e.posts
-        by (PutsNone none) = none-is e.posts none
-        by (PutsOne t link m more is none a) = subst (λ (ps : List Post). EachPost (IsOnSocket setup) ps) (sym is) (a.socket, none-is more none)

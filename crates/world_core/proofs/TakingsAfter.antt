@@ -52,10 +52,11 @@ use Rattle.world_core.specs.Hosts.{AreHostsAfter, IsHostAfter, IsNext, IsStreamA
 use Rattle.world_core.proofs.QuietEvents.{entry-of}
 use Rattle.world_core.proofs.SoundEnds.{sound-at}
 use Rattle.world_core.proofs.EndRecords.{state-is}
-use Rattle.world_core.proofs.HostsKept.{if-none}
+use Rattle.world_core.proofs.HostsAfter.{if-none, hosts-after}
 use Rattle.world_core.proofs.TakenAlone.{paths_of}
-use Rattle.world_core.proofs.HostsOn.{Flowing, PlaysBy, own-sent, own-kept, theirs-then, both-then, may-go, twice, stood}
-use Rattle.world_core.proofs.StreamsAfter.{their-flows, their-taken}
+use Rattle.world_core.proofs.HostsOn.{PlaysBy, own-sent, own-kept, theirs-then, may-go}
+use Rattle.world_core.proofs.MovedWires.{twice}
+use Rattle.world_core.proofs.StreamsAfter.{Flowing, their-flows, their-taken}
 use Rattle.world_core.proofs.ClcTaken.{IsTaken, link_with, link_of, held}
 use Rattle.world_core.proofs.TakenMessagesAll.{paths-up, taken, idle}
 use Rattle.world_core.proofs.MayTakes.{MayMake as MayMakeAt, may-take, can-make, told-kept, would-take, would-idle}
@@ -143,14 +144,11 @@ module _ (setup : Setup) (payload : List ℕ) (past : List Entry) (heard s : ℕ
   pub own-is : state_at s own.core ≡ end_state (other dir) s past
   own-is = let h = before.own in state-is setup payload (buffer_of setup payload (other dir) past ∷ []) (other dir) past own.core h.side s known
 
-  pub socket-at-own : s < length own.core.hands
-  socket-at-own = let h = before.own in stood setup payload (buffer_of setup payload (other dir) past ∷ []) (other dir) past own.core h.side s known
-
   pub socket-at-theirs : s < length theirs.flows.items
   socket-at-theirs = let h = before.theirs in subst (λ n. s < n) (sym h.sockets) known
 
   theirs-before : IsHostAfter setup payload dir past theirs
-  theirs-before = subst (λ x. IsHostAfter setup payload x past theirs) (twice dir) before.theirs
+  theirs-before = subst (λ x. IsHostAfter setup payload x past theirs) (sym (twice dir)) before.theirs
 
   next-before : IsNext dir s past (outflow_at s theirs.flows.items).next
   next-before = let h = theirs-before in let f : IsStreamAfter payload dir s past (outflow_at s theirs.flows.items) = h.flows s known in f.next
@@ -169,9 +167,6 @@ module _ (setup : Setup) (payload : List ℕ) (past : List Entry) (heard s : ℕ
         first = sym next.message ∙ ap (λ (o : Option Untaken). option_map (λ v. v.message) o) f.1;
         link = subst (λ (o : Option Untaken). IfSome o (λ v. v.link ≡ option_map (λ o. o.link) (offered dir s past))) f.1 next.link;
       }
-
-  pub waits-now : (u : Untaken) → due_on s own.core theirs.flows.items ≡ Some u → expects (state_at s own.core) ≡ true
-  waits-now u e = let f = due-some (state_at s own.core) (outflow_at s theirs.flows.items) u e in f.0
 
   none-due : due_on s own.core theirs.flows.items ≡ None → (expects (end_state (other dir) s past) ≡ false) ⊎ (head (untaken dir s past) ≡ None)
   none-due e = by (due-none (state_at s own.core) (outflow_at s theirs.flows.items) e)
@@ -264,7 +259,7 @@ module _ (setup : Setup) (payload : List ℕ) (past : List Entry) (heard s : ℕ
   still-flows actor none =
       let set = before.set in
       let h = before.theirs in
-      their-flows setup set.one payload (entry_of setup payload past heard actor (Clc s dir)) past (heard + 0) (plays actor) (other (other dir)) (sym (twice (other dir))) theirs.flows.items
+      their-flows setup set.one payload (entry_of setup payload past heard actor (Clc s dir)) past (heard + 0) (plays actor) (other (other dir)) (twice (other dir)) theirs.flows.items
       (λ t. ap (λ b. (t == s) && (same_side (other (other dir)) dir && b)) none ∙ (ap (λ b. (t == s) && b) (no-and (same_side (other (other dir)) dir)) ∙ no-and (t == s)))
       (λ t. refl) h.flows
 
@@ -289,7 +284,7 @@ module _ (setup : Setup) (payload : List ℕ) (past : List Entry) (heard s : ℕ
           after = λ actor.
               let of-own = so own-regions actor in
               let of-theirs = so (buffer_of setup payload (other (other dir)) past ∷ []) actor in
-              both-then setup payload past heard (Clc s dir) own theirs before few known lands-none unmoved-by silent-by actor own theirs
+              hosts-after setup payload before.set past heard before.played (Clc s dir) known actor few (other dir) own theirs
               (own-kept setup payload past heard (Clc s dir) own theirs before few known lands-none unmoved-by silent-by actor own (subst (λ (m : Manager Half). StandsFor own.core m) (sym (of-own.both (other dir))) h.side) of-own.posts refl refl)
               (theirs-kept actor (ap (λ r. takes_it r) of-own.reply) (of-theirs.both (other (other dir))));
         }
@@ -335,7 +330,7 @@ module _ (setup : Setup) (payload : List ℕ) (past : List Entry) (heard s : ℕ
             reply_is = reply-so;
             posts_are = posts-so;
             after = λ actor.
-                both-then setup payload past heard (Clc s dir) own theirs before few known lands-none unmoved-by silent-by actor g theirs
+                hosts-after setup payload before.set past heard before.played (Clc s dir) known actor few (other dir) g theirs
                 (own-kept setup payload past heard (Clc s dir) own theirs before few known lands-none unmoved-by silent-by actor g (subst (λ w. StandsFor w (manager_of setup payload (buffer_of setup payload (other dir) past ∷ []) (other dir) (entry_of setup payload past heard actor (Clc s dir) ∷ past))) (sym core) (stands-so actor)) none-posted wire flows)
                 (theirs-kept actor (ap (λ q. takes_it q) (sym reply-so ∙ is)) (theirs-so actor ∙ ap (λ q. link_with q (manager_of setup payload (buffer_of setup payload (other (other dir)) past ∷ []) (other (other dir)) past)) is));
           }
@@ -367,7 +362,7 @@ module _ (setup : Setup) (payload : List ℕ) (past : List Entry) (heard s : ℕ
           let set = before.set in
           let d = is-due u due in
           let h = theirs-before in
-          subst (λ x. Flowing payload setup.sockets x (entry_of setup payload past heard actor (Clc s dir) ∷ past) (hands_over s u.message theirs.flows.items)) (sym (twice dir))
+          subst (λ x. Flowing payload setup.sockets x (entry_of setup payload past heard actor (Clc s dir) ∷ past) (hands_over s u.message theirs.flows.items)) (twice dir)
           (their-taken setup set.one payload (entry_of setup payload past heard actor (Clc s dir)) past (heard + 0) (plays actor) dir s u.message refl takes d.first theirs.flows.items h.sockets h.flows)
 
       -- it is taken
@@ -382,7 +377,7 @@ module _ (setup : Setup) (payload : List ℕ) (past : List Entry) (heard s : ℕ
             reply_is = reply-so;
             posts_are = posts-so;
             after = λ actor.
-                both-then setup payload past heard (Clc s dir) own theirs before few known lands-none unmoved-by silent-by actor g l
+                hosts-after setup payload before.set past heard before.played (Clc s dir) known actor few (other dir) g l
                 (own-sent setup payload past heard (Clc s dir) own theirs before few known lands-none unmoved-by silent-by actor g (subst (λ w. StandsFor w (manager_of setup payload (buffer_of setup payload (other dir) past ∷ []) (other dir) (entry_of setup payload past heard actor (Clc s dir) ∷ past))) (sym core) (stands-so actor)) posts posts-so number n
                 (λ m st. wire m (subst (λ w. StandsFor w m) core st)) flows)
                 (theirs-then setup payload past heard (Clc s dir) own theirs before few known lands-none unmoved-by silent-by actor l

@@ -75,7 +75,7 @@ module _ (at : Moment) (end : End) (place len : ℕ) (own theirs : Host) (hosts 
   few-past = let e : length Past ≡ length at.history.now = length-reverse at.history.now in omega (arith, e, few)
 
   is-write : IsCall Told_by
-  is-write = record { posts_none = refl; lands_none = λ y reply. refl; moves_none = λ y w. refl }
+  is-write = record { lands_none = λ y reply. refl; moves_none = λ y w. refl }
 
   abbrev E : ℕ → Entry
   E actor = entry_by at.setup.now at.payload.now Past at.heard Told_by own theirs hosts few-past built actor
