@@ -17,7 +17,8 @@ use Rattle.world_core.specs.OneLink.{the_link}
 use Rattle.world_core.specs.Wired.{message, returning, IsCarried}
 use Rattle.world_core.specs.Agreement.{IsOnlyLink, HasOffers, GoesOn, IsShaken, IsElse, Agree}
 use Rattle.world_core.proofs.Idle.{idle}
-use Rattle.world_core.proofs.Parts.{part-open, up-is, up-offered, comes-not-up}
+use Rattle.world_core.proofs.Parts.{part-open, up-offered, comes-not-up}
+use Rattle.world_core.proofs.UpEnds.{pipe-is-up}
 use Rattle.world_core.proofs.Agreed.{strange-step, carried-step, can-step}
 
 nothing-left : (n : ℕ) (ms : List Sent) → ms ≡ [] → drop n ms ≡ []
@@ -65,7 +66,7 @@ module _ (setup : Setup) (payload : List ℕ) where
     -- an end that was offered just now has sent nothing
     pub new-end : (x : Side) (s : ℕ) → offered (other x) s past ≡ None → (half x (pipe_of setup payload 1 s (e ∷ past))).sent ≡ []
     new-end x s f = idle (terms_of setup) x (part payload 1 s (e ∷ past)) (part-open setup payload 1 s (e ∷ past) m plays shakes)
-        (up-is setup payload (terms_of setup) x 1 s (e ∷ past) m plays shakes ∙ ap (λ b. b || is_up x s past) (comes-not-up setup payload x s e past go f) ∙ up-offered setup payload x s past shaken f)
+        (pipe-is-up (terms_of setup) x payload 1 s (e ∷ past) ∙ ap (λ b. b || is_up x s past) (comes-not-up setup payload x s e past go f) ∙ up-offered setup payload x s past shaken f)
 
     new-carried : (x : Side) (s : ℕ) (o : Offered) → offered (other x) s (e ∷ past) ≡ Some o → offered (other x) s past ≡ None → IsCarried (element_size setup) the_link x o.offer.token (e ∷ past) (half x (pipe_of setup payload 1 s (e ∷ past)))
     new-carried x s o f none =

@@ -115,8 +115,8 @@ taker (ClcEvent s dir) = other dir
 taker _ = A
 
 -- the side that offers takes the message
-module _ (setup : Setup) (past : List Entry) (t : ℕ) (dir : Side) where
-  offer-side : (y : Side) (ps : List Post) (o : Offered) → filter_map (offer_in y t) ps ≡ o ∷ [] → NoOffers ps ⊎ OneOffer setup (ClcEvent t dir) past ps → y ≡ other dir
+module _ (past : List Entry) (t : ℕ) (dir : Side) where
+  offer-side : (y : Side) (ps : List Post) (o : Offered) → filter_map (offer_in y t) ps ≡ o ∷ [] → NoOffers ps ⊎ OneOffer (ClcEvent t dir) past ps → y ≡ other dir
   offer-side y ps o e (inl n) = absurd (true≢false (ap (λ (os : List Offered). is_some (head os)) (sym e ∙ n.offers y t)))
   offer-side y ps o e (inr r) = by (same_side y r.y) refl
     where
@@ -124,10 +124,10 @@ module _ (setup : Setup) (past : List Entry) (t : ℕ) (dir : Side) where
       by true f = same-is y r.y f ∙ (twice r.y ∙ sym (ap (λ v. taker v) r.event_is))
       by false f = absurd (true≢false (ap (λ (os : List Offered). is_some (head os)) (sym e ∙ r.offers y t ∙ ap (λ b. if b && (t == r.t) then r.offer ∷ [] else []) f)))
 
-  accept-side : (link : LinkId) (o : Offer) → NoOffers (Clc B t (Some link) (AcceptMessage o) ∷ []) ⊎ OneOffer setup (ClcEvent t dir) past (Clc B t (Some link) (AcceptMessage o) ∷ []) → B ≡ other dir
+  accept-side : (link : LinkId) (o : Offer) → NoOffers (Clc B t (Some link) (AcceptMessage o) ∷ []) ⊎ OneOffer (ClcEvent t dir) past (Clc B t (Some link) (AcceptMessage o) ∷ []) → B ≡ other dir
   accept-side link o q = offer-side B _ (record { link = link; offer = o }) (ap (λ b. cons_option (offered_if b link o) []) (eq-eqb t t refl)) q
 
-  confirm-side : (link : LinkId) (o : Offer) → NoOffers (Clc A t (Some link) (ConfirmMessage o) ∷ []) ⊎ OneOffer setup (ClcEvent t dir) past (Clc A t (Some link) (ConfirmMessage o) ∷ []) → A ≡ other dir
+  confirm-side : (link : LinkId) (o : Offer) → NoOffers (Clc A t (Some link) (ConfirmMessage o) ∷ []) ⊎ OneOffer (ClcEvent t dir) past (Clc A t (Some link) (ConfirmMessage o) ∷ []) → A ≡ other dir
   confirm-side link o q = offer-side A _ (record { link = link; offer = o }) (ap (λ b. cons_option (offered_if b link o) []) (eq-eqb t t refl)) q
 
 few-none : (sockets : ℕ) (y : Side) → AreFew sockets y []
@@ -142,7 +142,7 @@ few-if sockets y false ps qs f g = g
 
 module _ (setup : Setup) (payload : List ℕ) (past : List Entry) (t : ℕ) (known : t < setup.sockets) (k : Socket) (at : StandsAt setup k t past) (dir : Side) where
   abbrev Offers : List Post → Type 0
-  Offers ps = NoOffers ps ⊎ OneOffer setup (ClcEvent t dir) past ps
+  Offers ps = NoOffers ps ⊎ OneOffer (ClcEvent t dir) past ps
 
   abbrev Few : List Post → Type 0
   Few ps = AreFew setup.sockets (other dir) ps
@@ -154,9 +154,9 @@ module _ (setup : Setup) (payload : List ℕ) (past : List Entry) (t : ℕ) (kno
   few-ready (DeclineMessage r) e = few-none setup.sockets (other dir)
 
   few-step : (m : ClcMessage) (step : ClcStep) → clc_step setup payload (other dir) t m past ≡ step → Offers (clc_posts setup payload (other dir) t m past step) → Few (clc_posts setup payload (other dir) t m past step)
-  few-step m (SendAccept true) e q = few-one setup.sockets (other dir) _ (accept-side setup past t dir (first_link setup past) (new_offer setup payload B true (first_link setup past) past) q, known)
-  few-step m (SendAccept false) e q = few-one setup.sockets (other dir) _ (accept-side setup past t dir (fewest setup payload past) (new_offer setup payload B false (fewest setup payload past) past) q, known)
-  few-step m (SendConfirm first) e q = few-one setup.sockets (other dir) _ (confirm-side setup past t dir (unwrap_or (named_link t past) no_link) (new_offer setup payload A first (unwrap_or (named_link t past) no_link) past) q, known)
+  few-step m (SendAccept true) e q = few-one setup.sockets (other dir) _ (accept-side past t dir (first_link setup past) (new_offer setup payload B true (first_link setup past) past) q, known)
+  few-step m (SendAccept false) e q = few-one setup.sockets (other dir) _ (accept-side past t dir (fewest setup payload past) (new_offer setup payload B false (fewest setup payload past) past) q, known)
+  few-step m (SendConfirm first) e q = few-one setup.sockets (other dir) _ (confirm-side past t dir (unwrap_or (named_link t past) no_link) (new_offer setup payload A first (unwrap_or (named_link t past) no_link) past) q, known)
   few-step m AskKey e q = few-one setup.sockets (other dir) _ refl
   few-step m (Wait hold) e q = few-none setup.sockets (other dir)
   few-step m (Decline lack) e q = few-one setup.sockets (other dir) _ (refl, known)

@@ -21,7 +21,8 @@ use Rattle.world_core.specs.Agreement.{IsOnlyLink, HasOffers, GoesOn, IsShaken, 
 use Rattle.world_core.proofs.Idle.{idle, on-link}
 use Rattle.world_core.proofs.PipePosts.{given}
 use Rattle.world_core.proofs.EntryItems.{each-append, each-reverse, each-more, items-are, deeds-open, below, below-is, below-calm, is_fate_or_up, fate-or-up-open, fates-only, fates-no-up}
-use Rattle.world_core.proofs.Parts.{part-open, part-on, up-is, up-offered, news-up, raised-none}
+use Rattle.world_core.proofs.Parts.{part-open, part-on, up-offered}
+use Rattle.world_core.proofs.UpEnds.{pipe-is-up, news-up, raised-none}
 use Rattle.world_core.proofs.Own.{grouped}
 use Rattle.world_core.proofs.Agreed.{draft-items}
 use Rattle.world_core.proofs.Quiet.{spares, all-spared}
@@ -48,7 +49,7 @@ module _ (setup : Setup) (payload : List ℕ) (e : Entry) (past : List Entry) (b
   p-open s = part-open setup payload (G s) s past n played shaken
 
   p-up : (x : Side) (s : ℕ) → (half x (pipe T (P s))).up ≡ is_up x s past
-  p-up x s = up-is setup payload T x (G s) s past n played shaken
+  p-up x s = pipe-is-up T x payload (G s) s past
 
   f-calm : (s : ℕ) → EachItem is_fate_or_up (F s)
   f-calm s = each-reverse is_fate_or_up (fates A (G s) e past ++ fates B (G s) e past) (each-append is_fate_or_up (fates A (G s) e past) (fates B (G s) e past) (fates-only is_fate_or_up A (G s) e past (λ l p. refl)) (fates-only is_fate_or_up B (G s) e past (λ l p. refl)))
@@ -57,7 +58,7 @@ module _ (setup : Setup) (payload : List ℕ) (e : Entry) (past : List Entry) (b
   f-open s = each-append keeps_open (F s) (P s) (each-more is_fate_or_up keeps_open fate-or-up-open (F s) (f-calm s)) (p-open s)
 
   f-up : (x : Side) (s : ℕ) → (half x (pipe T (F s ++ P s))).up ≡ is_up x s past
-  f-up x s = news-up T x (F s) (P s) (each-more is_fate_or_up keeps_open fate-or-up-open (F s) (f-calm s)) ∙ ap (λ b. b || (half x (pipe T (P s))).up) (raised-none x (F s) (fates-no-up (G s) e past)) ∙ p-up x s
+  f-up x s = news-up T x (F s) (P s) ∙ ap (λ b. b || (half x (pipe T (P s))).up) (raised-none x (F s) (fates-no-up (G s) e past)) ∙ p-up x s
 
   -- the group of a connection with an end that is up
   up-grouped : (x : Side) (s : ℕ) → is_up x s past ≡ true → G s ≡ 1

@@ -29,9 +29,9 @@ use Rattle.world_core.specs.Due.{due_of, acts_at, due_posts, PostsDue}
 use Rattle.world_core.specs.Agreement.{IsOnlyLink, HasOffers, GoesOn, IsShaken, IsCalm}
 use Rattle.world_core.proofs.Growth.{settled-half}
 use Rattle.world_core.proofs.PipePosts.{given, flat-none}
-use Rattle.world_core.proofs.EntryItems.{below, below-is, deeds-open, each-append, each-reverse, fates-only, fates-no-up}
+use Rattle.world_core.proofs.EntryItems.{below, below-is, deeds-open, fates-no-up}
 use Rattle.world_core.proofs.Ways.{own-items}
-use Rattle.world_core.proofs.Parts.{up-is, news-up, raises, raised-none, apply-up}
+use Rattle.world_core.proofs.UpEnds.{pipe-is-up, news-up, raises, raised-none, apply-up}
 use Rattle.world_core.proofs.Quiet.{all-spared}
 use Rattle.world_core.proofs.Senders.{rests, apply-sent}
 use Rattle.world_core.proofs.Batches.{f-spares, over, given-is, below-rests}
@@ -153,17 +153,17 @@ module _ (setup : Setup) (payload : List ℕ) (e : Entry) (past : List Entry) (b
     up-below : is_up x s past ≡ false → (half x (pipe T (Below s ++ P s))).up ≡ false
     up-below u =
         ap (λ is. (half x (pipe T (is ++ P s))).up) below-fates ∙
-        news-up T x F (P s) (each-reverse keeps_open (fates A (group_on s past) e past ++ fates B (group_on s past) e past) (each-append keeps_open (fates A (group_on s past) e past) (fates B (group_on s past) e past) (fates-only keeps_open A (group_on s past) e past (λ l p. refl)) (fates-only keeps_open B (group_on s past) e past (λ l p. refl)))) ∙
-        ap (λ b. b || (half x (pipe T (P s))).up) (raised-none x F (fates-no-up (group_on s past) e past)) ∙ up-is setup payload T x (group_on s past) s past n played shaken ∙ u
+        news-up T x F (P s) ∙
+        ap (λ b. b || (half x (pipe T (P s))).up) (raised-none x F (fates-no-up (group_on s past) e past)) ∙ pipe-is-up T x payload (group_on s past) s past ∙ u
 
     apply-down : (p : Pipe) → (half x p).up ≡ false → (half x (apply T.size item p)).up ≡ false
-    apply-down p u = apply-up T.size x item p item-open ∙ ap (λ b. b || (half x p).up) (no-raise x item a) ∙ u
+    apply-down p u = apply-up T.size x item p ∙ ap (λ b. b || (half x p).up) (no-raise x item a) ∙ u
 
     due-same : (u : Bool) → is_up x s past ≡ u → due_of T.depth (half x (apply T.size item (pipe T (Below s ++ P s)))) ≡ due_of T.depth (half x (apply T.size item (pipe T (P s))))
     due-same true u = ap (λ h. due_of T.depth h) (own-half T.size x item (pipe T (Below s ++ P s)) (pipe T (P s)) a (same-below u))
     due-same false u =
         not-due-down T.depth (half x (apply T.size item (pipe T (Below s ++ P s)))) (apply-down (pipe T (Below s ++ P s)) (up-below u)) ∙
-        sym (not-due-down T.depth (half x (apply T.size item (pipe T (P s)))) (apply-down (pipe T (P s)) (up-is setup payload T x (group_on s past) s past n played shaken ∙ u)))
+        sym (not-due-down T.depth (half x (apply T.size item (pipe T (P s)))) (apply-down (pipe T (P s)) (pipe-is-up T x payload (group_on s past) s past ∙ u)))
 
     -- it is given what is due
     given-due : given setup payload D past x s ≡ due_of T.depth (half x (apply T.size item (pipe T (P s))))

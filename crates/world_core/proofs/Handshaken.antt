@@ -10,9 +10,9 @@ use Rattle.world_core.specs.Sockets.{IsWorld}
 use Rattle.world_core.specs.Agreement.{HasOffers, GoesOn, IsShaken, PostsFew, GivesItems}
 use Rattle.world_core.proofs.PlayedWorlds.{goes, played}
 use Rattle.world_core.proofs.NewOffers.{HasSocketAt, asked-offers}
-use Rattle.world_core.proofs.Shaken.{Choice, only-link, offer-link, offer-answer, kept-by}
-use Rattle.world_core.proofs.Tokens.{AreCounted, none-counted, counted-step}
-use Rattle.world_core.proofs.Groups.{no-group-ends}
+use Rattle.world_core.proofs.Shaken.{Choice, only-link, offer-answer, kept-by}
+use Rattle.world_core.proofs.LendingFacts.{offer-on-link, offer-known, played-lendings, tokens-tell}
+use Rattle.world_core.proofs.LinkFacts.{no-group-ends-with}
 use Rattle.world_core.proofs.Rising.{comes-named, comes-offered, is-calm}
 use Rattle.world_core.specs.Due.{PostsDue}
 use Rattle.world_core.proofs.Due.{posts-due}
@@ -27,14 +27,6 @@ use Rattle.std.proofs.Common.{◌++◌, ap}
 at-socket : (setup : Setup) (stage : Stage) (past : List Entry) → IsWorld setup stage past → (s : ℕ) → HasSocketAt setup s past
 at-socket setup stage past w s = let h = w.sockets s in record { at = h.at; stands = h.stands }
 
-offers-by : (setup : Setup) (stage : Stage) (past : List Entry) → IsWorld setup stage past → AreCounted setup past → HasOffers setup past
-offers-by setup stage past w c = record {
-  link = λ x s o f. let h = w.sockets s in let at = h.stands in offer-link h.at x o (sym (at.offer x) ∙ f);
-  known = c.known;
-  tokens = c.tokens;
-  answer = λ s f. let h = w.sockets s in let at = h.stands in at.offer A ∙ offer-answer h.at (sym (at.offer B) ∙ f);
-}
-
 module _ (setup : Setup) (one : IsOneLink setup) (payload : List ℕ) where
   choice-of : (e : Entry) (past : List Entry) (before : ℕ) (made : IsMade setup payload past before e) (stage : Stage) → IsWorld setup stage past → Choice setup payload e past before made
   choice-of e past before made stage w = asked-offers setup payload past (at-socket setup stage past w) e.event (draft setup payload past before e.event).reply made.built
@@ -46,15 +38,19 @@ module _ (setup : Setup) (one : IsOneLink setup) (payload : List ℕ) where
       record {
         kept = k;
         ups = λ x s l f. (let n = comes-named x s e past l f in let m = n.1 in sym m.1 ∙ offers.link B s n.0 m.0, comes-offered setup payload e past before made c to now x s l f);
-        stands = λ x g. no-group-ends setup from to e past was now k x g;
+        stands = λ x g. no-group-ends-with setup from to e past was now x g;
       }
 
-  counted : (past : List Entry) (n : ℕ) → IsPlayed setup payload past n → AreCounted setup past
-  counted [] n p = none-counted setup
-  counted (e ∷ past) n p = let w = played setup one payload past p.0 p.3 in counted-step setup payload e past p.0 p.1 (counted past p.0 p.3) (choice-of e past p.0 p.1 w.stage w.world)
-
   pub has-offers : (past : List Entry) (n : ℕ) → IsPlayed setup payload past n → HasOffers setup past
-  has-offers past n p = let w = played setup one payload past n p in offers-by setup w.stage past w.world (counted past n p)
+  has-offers past n p =
+      let w = played setup one payload past n p in
+      let world = w.world in
+      record {
+        link = λ x s o f. offer-on-link setup w.stage past world x s o f;
+        known = λ x s o f. offer-known setup payload x past (played-lendings setup one payload past n p x) s o f;
+        tokens = λ x s t o r f g h. tokens-tell setup payload x past (played-lendings setup one payload past n p x) s t o r f g h;
+        answer = λ s f. let h = world.sockets s in let at = h.stands in at.offer A ∙ offer-answer h.at (sym (at.offer B) ∙ f);
+      }
 
   -- the handshake gives it
   pub shaken : (past : List Entry) (n : ℕ) → IsPlayed setup payload past n → IsShaken setup past

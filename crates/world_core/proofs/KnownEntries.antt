@@ -17,7 +17,8 @@ use Rattle.world_core.specs.Managers.{lending_on}
 use Rattle.world_core.proofs.DataPosts.{connections-data}
 use Rattle.world_core.proofs.Idle.{on-link}
 use Rattle.world_core.proofs.Moves.{IsQuiet}
-use Rattle.world_core.proofs.Parts.{part-open, part-on, up-is}
+use Rattle.world_core.proofs.Parts.{part-open, part-on}
+use Rattle.world_core.proofs.UpEnds.{pipe-is-up}
 use Rattle.world_core.proofs.DuePosts.{only-pipes}
 use Rattle.world_core.proofs.QuietEntries.{IsCalm, bare}
 use Rattle.world_core.proofs.KeyedEnds.{KnowsEnds}
@@ -29,11 +30,11 @@ LentToUp setup payload past = (x : Side) (s : ℕ) → is_up x s past ≡ true �
 -- the ends of a played history
 pub knows-ends : (setup : Setup) (payload : List ℕ) (past : List Entry) (n : ℕ) → IsPlayed setup payload past n → IsShaken setup past → LentToUp setup payload past → KnowsEnds setup payload past
 knows-ends setup payload past n p h lent_up = record {
-  up = λ x s. up-is setup payload (terms_of setup) x (group_on s past) s past n p h;
+  up = λ x s. pipe-is-up (terms_of setup) x payload (group_on s past) s past;
   link = λ x s up.
       let items = part payload (group_on s past) s past in
       let on = on-link the_link (terms_of setup) x items (part-open setup payload (group_on s past) s past n p h) (part-on setup payload (group_on s past) s past n p h) in
-      on.own (up-is setup payload (terms_of setup) x (group_on s past) s past n p h ∙ up);
+      on.own (pipe-is-up (terms_of setup) x payload (group_on s past) s past ∙ up);
   lent_up = lent_up;
 }
 

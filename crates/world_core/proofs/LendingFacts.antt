@@ -1,7 +1,7 @@
 -- The lendings of a side and its offers: a socket has at most one lending, exactly where the side has offered; tokens and places are apart.
 use Rattle.pipe_model.specs.Lending.{lent}
-use Rattle.std.proofs.Common.{◌≡◌, ap, arith, cond, inl, inr, refl, subst, sym, ◌∙◌}
-use Rattle.std.specs.Prelude.{find, Bool, List, None, Option, Some, [], false, filter, filter_map, length, map, not, option_map, true, ℕ, ◌++◌, ◌<◌, ◌==◌, ◌||◌, ◌∷◌, ◌≤◌, ◌⊎◌}
+use Rattle.std.proofs.Common.{◌≡◌, ap, arith, cond, refl, subst, sym, ◌∙◌}
+use Rattle.std.specs.Prelude.{find, unwrap_or, Bool, List, None, Option, Some, [], false, filter, filter_map, length, map, not, option_map, true, ℕ, ◌++◌, ◌<◌, ◌==◌, ◌||◌, ◌∷◌, ◌≤◌}
 use Rattle.std.specs.List.{IsDistinct, AllByRecursion, list_any, cons_option}
 use Rattle.std.proofs.lemmas.Bool.{eqb-true, eq-eqb, ne_eqb}
 use Rattle.std.proofs.lemmas.List.{length-map}
@@ -23,6 +23,7 @@ use Rattle.smc_num.specs.Places.{Place, is_free, same_place}
 use Rattle.pipe_model.specs.Posts.{offered_place}
 use Rattle.pipe_model.specs.declared.setup.Setup.{Setup}
 use Rattle.world_core.proofs.PlayedWorlds.{goes, played}
+use Rattle.world_core.proofs.Shaken.{offer-link}
 use Rattle.world_core.specs.Lent.{AreCounted, AreLendings, Begins, BeginsNone, BeginsOne, EachLending, HavePlaces, HaveSockets, IsOfOffer}
 use Rattle.world_core.proofs.Offers.{IsFree, is-free}
 use Rattle.smc_num.specs.Names.{head}
@@ -30,7 +31,7 @@ use Rattle.pipe_model.specs.declared.post.Post.{Post}
 use Rattle.smc_num.specs.declared.Side.{Side}
 use Rattle.pipe_model.specs.History.{Offered, offer_in, offered, offered_if}
 use Rattle.pipe_model.specs.Lending.{Lending, lendings, lends, lends_by, lent_places, returns}
-use Rattle.world_core.specs.Sockets.{AcceptFallen, AcceptRefused, Accepted, AwaitsLink, Confirmed, Fallen, FirstAccepted, FirstConfirmed, FirstUp, FirstUpAtA, IsWorld, Proposed, Refused, Socket, Unopened, Up, offered_at, on_link}
+use Rattle.world_core.specs.Sockets.{IsWorld}
 
 -- each lending of a list
 pub each-map : (P Q : Lending → Type 0) → ((l : Lending) → P l → Q l) → (ls : List Lending) → EachLending P ls → EachLending Q ls
@@ -105,6 +106,15 @@ found-lending x s (e ∷ older) =
     ∙ (ap (λ (o : Option Lending). option_or (option_map (lends-for s) (head (filter_map (offer_in x s) e.posts))) o) (found-lending x s older)
     ∙ sym (map-or s (head (filter_map (offer_in x s) e.posts)) (offered x s older))))
 
+-- what a socket finds is one of them
+pub found-each : (P : Lending → Type 0) (s : ℕ) (ls : List Lending) (l : Lending) → EachLending P ls → find (λ k. k.s == s) ls ≡ Some l → P l
+found-each P s [] l a e = cc
+found-each P s (k ∷ ks) l a e = by (k.s == s) e (λ r. found-each P s ks l a.1 r)
+  where
+    by : (b : Bool) → cond b (Some k) (find (λ k. k.s == s) ks) ≡ Some l → (find (λ k. k.s == s) ks ≡ Some l → P l) → P l
+    by true e rest = subst P (ap (λ q. unwrap_or q k) e) a.0
+    by false e rest = rest e
+
 -- a socket without a lending
 not-among : (s : ℕ) (ls : List Lending) → find (λ l. l.s == s) ls ≡ None → EachLending (λ m. (m.s == s) ≡ false) ls
 not-among s [] e = tt
@@ -124,41 +134,8 @@ finds-each (l ∷ ls) h = (
 )
 
 -- each offer is on the link
-on-the-link : (k : Socket) (x : Side) (q : Offered) → offered_at k x ≡ Some q → q.link ≡ the_link
-on-the-link k x q e = by_offer (offered_at k x) (either k x) e
-  where
-    by_offer : (o : Option Offered) → (o ≡ None) ⊎ ((p : Offer) × (o ≡ on_link p)) → o ≡ Some q → q.link ≡ the_link
-    by_offer o (inl n) e = cc
-    by_offer o (inr p) e = let f : Some (record { link = the_link; offer = p.0 }) ≡ Some q = sym p.1 ∙ e in ap (λ (r : Offered). r.link) (let g : q ≡ record { link = the_link; offer = p.0 } = cc in g)
-
-    either : (j : Socket) (y : Side) → (offered_at j y ≡ None) ⊎ ((p : Offer) × (offered_at j y ≡ on_link p))
-    either (FirstAccepted o) A = inl refl
-    either (FirstAccepted o) B = inr (o, refl)
-    either (FirstConfirmed o p) A = inr (p, refl)
-    either (FirstConfirmed o p) B = inr (o, refl)
-    either (AwaitsLink o p) A = inr (p, refl)
-    either (AwaitsLink o p) B = inr (o, refl)
-    either (FirstUpAtA o p) A = inr (p, refl)
-    either (FirstUpAtA o p) B = inr (o, refl)
-    either (FirstUp o p) A = inr (p, refl)
-    either (FirstUp o p) B = inr (o, refl)
-    either (Accepted o) A = inl refl
-    either (Accepted o) B = inr (o, refl)
-    either (AcceptRefused o r) A = inl refl
-    either (AcceptRefused o r) B = inr (o, refl)
-    either (AcceptFallen o) A = inl refl
-    either (AcceptFallen o) B = inr (o, refl)
-    either (Confirmed o p) A = inr (p, refl)
-    either (Confirmed o p) B = inr (o, refl)
-    either (Up o p) A = inr (p, refl)
-    either (Up o p) B = inr (o, refl)
-    either Unopened y = inl refl
-    either Fallen y = inl refl
-    either Proposed y = inl refl
-    either (Refused r) y = inl refl
-
 pub offer-on-link : (setup : Setup) (stage : Stage) (past : List Entry) → IsWorld setup stage past → (x : Side) (s : ℕ) (q : Offered) → offered x s past ≡ Some q → q.link ≡ the_link
-offer-on-link setup stage past w x s q e = let h = w.sockets s in let at = h.stands in on-the-link h.at x q (sym (at.offer x) ∙ e)
+offer-on-link setup stage past w x s q e = let h = w.sockets s in let at = h.stands in offer-link h.at x q (sym (at.offer x) ∙ e)
 
 -- each lending is that of an offer
 of-offer : (setup : Setup) (stage : Stage) (past : List Entry) → IsWorld setup stage past → (x : Side) (l : Lending) → find (λ m. m.s == l.s) (lendings x past) ≡ Some l → IsOfOffer x past l
@@ -243,6 +220,10 @@ played-lendings setup one payload (e ∷ older) n p x =
     let made = p.1 in
     let h = goes setup one payload g.stage p.0 e older made g.world in
     lendings-on setup one payload x e older (length payload) h.stage h.world made.built (h.begins x) (played-lendings setup one payload older p.0 p.3 x)
+
+-- an offer is of a socket that there is
+pub offer-known : (setup : Setup) (payload : List ℕ) (x : Side) (past : List Entry) → AreLendings setup payload x past → (s : ℕ) (o : Offered) → offered x s past ≡ Some o → s < setup.sockets
+offer-known setup payload x past a s o e = found-each (λ l. l.s < setup.sockets) s (lendings x past) (lends-for s o) a.few (found-lending x s past ∙ ap (λ (q : Option Offered). option_map (lends-for s) q) e)
 
 -- sockets are few, so lendings are
 distinct : (ls : List Lending) → HaveSockets ls → IsDistinct (λ a b. a == b) (map (λ l. l.s) ls)

@@ -48,7 +48,6 @@ pub mod FreshEnds
 pub mod FreshHosts
 pub mod GoingUp
 pub mod GoodSettings
-pub mod Groups
 pub mod Grown
 pub mod Growth
 pub mod Handshaken
@@ -153,7 +152,6 @@ pub mod TakenMessagesAll
 pub mod TakingsAfter
 pub mod TellsKept
 pub mod ToldByPipes
-pub mod Tokens
 pub mod TokensOnWay
 pub mod Unmade
 pub mod UpEnds

@@ -32,7 +32,8 @@ use Rattle.world_core.specs.Played.{IsPlayed}
 use Rattle.world_core.specs.Agreement.{IsShaken}
 use Rattle.world_core.specs.Managers.{desk_of, hand_of, conn_of, end_of, route_of, rows_of, first_on, each_socket, lending_on, HasLendings}
 use Rattle.world_core.proofs.PipeSteps.{risen, risen-other}
-use Rattle.world_core.proofs.Parts.{part-open, up-is}
+use Rattle.world_core.proofs.Parts.{part-open}
+use Rattle.world_core.proofs.UpEnds.{pipe-is-up}
 use Rattle.world_core.proofs.PlainPosts.{ArePlain, offer-stays, lends-none, lendings-stay, pairs-stay, serial-stays, first-stays}
 use Rattle.world_core.proofs.StillEntries.{lent-stays}
 use Rattle.world_core.proofs.SameManagers.{desk_from, rows_from}
@@ -174,7 +175,7 @@ module _ {x : Side} {from to : Stage} {reply : Bool} (setup : Setup) (payload : 
   end-was y = ap (λ g. half y (pipe (terms_of setup) (part payload g (first_on x past) past))) group-is
 
   down-before : (half x (pipe (terms_of setup) (part payload 1 (first_on x past) past))).up ≡ false
-  down-before = let q = shaken.1 in let r = q.1 in up-is setup payload (terms_of setup) x 1 (first_on x past) past played.0 played.3 r.1 ∙ w.down
+  down-before = let q = shaken.1 in let r = q.1 in pipe-is-up (terms_of setup) x payload 1 (first_on x past) past ∙ w.down
 
   pub end-risen : end_of setup payload x (first_on x past) (e ∷ past) ≡ settle setup.depth (comes_up the_link (meets_fate the_link LiveLink (end_of setup payload x (first_on x past) past)))
   end-risen =

@@ -32,7 +32,8 @@ use Rattle.world_core.proofs.OpenEnds.{half-open}
 use Rattle.world_core.proofs.Idle.{idle}
 use Rattle.world_core.proofs.Carrying.{cdcs-append}
 use Rattle.world_core.proofs.Places.{placed-append, placed-filter, placed-more}
-use Rattle.world_core.proofs.Parts.{part-open, up-is}
+use Rattle.world_core.proofs.Parts.{part-open}
+use Rattle.world_core.proofs.UpEnds.{pipe-is-up}
 use Rattle.world_core.proofs.Agreed.{each-drop}
 use Rattle.world_core.proofs.Agreement.{agrees}
 use Rattle.world_core.proofs.Heads.{unlanded-there, uncompleted-there, Gave, gave}
@@ -162,7 +163,7 @@ module _ (setup : Setup) (one : IsOneLink setup) (payload : List ℕ) (x : Side)
   none-of : (s : ℕ) → is_up x s past ≡ false → length (to_complete (H s)) ≤ 0
   none-of s u =
       let h : Half = H s in
-      let e : h.sent ≡ [] = idle (terms_of setup) x (part payload 1 s past) (part-open setup payload 1 s past n p (shaken setup one payload past n p)) (up-is setup payload (terms_of setup) x 1 s past n p (shaken setup one payload past n p) ∙ u) in
+      let e : h.sent ≡ [] = idle (terms_of setup) x (part payload 1 s past) (part-open setup payload 1 s past n p (shaken setup one payload past n p)) (pipe-is-up (terms_of setup) x payload 1 s past ∙ u) in
       let i : length (to_complete h) ≡ length h.sent - h.completed = length-drop h.completed h.sent in
       let k : length h.sent ≡ 0 = ap (λ ms. length ms) e in
       omega (arith, i, k)

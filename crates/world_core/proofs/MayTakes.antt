@@ -43,7 +43,7 @@ use Rattle.world_core.specs.Managers.{manager_of, desk_of, hand_of, conn_of, end
 use Rattle.world_core.proofs.PlayedWorlds.{played as has-world}
 use Rattle.world_core.proofs.Handshakes.{offer-of}
 use Rattle.world_core.proofs.TakenMessages.{end-is, begun-with}
-use Rattle.world_core.proofs.LendingFacts.{found-lending, lends-for, each-map, played-lendings, few-lendings, room-for-one, tokens-tell}
+use Rattle.world_core.proofs.LendingFacts.{found-each, found-lending, lends-for, each-map, played-lendings, few-lendings, room-for-one, tokens-tell}
 use Rattle.pipe_model.specs.Lending.{Lending, lends_by, lendings, lent}
 use Rattle.std.specs.List.{position_from, find, range_with_len}
 use Rattle.world_core.specs.Lent.{AreLendings, AreCounted, EachLending}
@@ -92,14 +92,6 @@ counted-each [] c = tt
 counted-each (l ∷ ls) c =
     let e = c.0 in
     ((omega (arith, e), omega (arith, e)), each-map (λ k. (1 ≤ k.token) × (k.token ≤ length ls)) (λ k. (1 ≤ k.token) × (k.token ≤ suc (length ls))) (λ k h. let low = h.0 in let high = h.1 in (low, omega (arith, high))) ls (counted-each ls c.1))
-
-found-each : (P : Lending → Type 0) (s : ℕ) (ls : List Lending) (l : Lending) → EachLending P ls → find (λ k. k.s == s) ls ≡ Some l → P l
-found-each P s [] l a e = cc
-found-each P s (k ∷ ks) l a e = by (k.s == s) e (λ r. found-each P s ks l a.1 r)
-  where
-    by : (b : Bool) → cond b (Some k) (find (λ k. k.s == s) ks) ≡ Some l → (find (λ k. k.s == s) ks ≡ Some l → P l) → P l
-    by true e rest = subst P (ap (λ q. unwrap_or q k) e) a.0
-    by false e rest = rest e
 
 record HasToken (setup : Setup) (o : Offer) : Type 0 where
   pub low : 1 ≤ o.token

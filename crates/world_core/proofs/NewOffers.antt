@@ -1,5 +1,5 @@
 -- An entry offers at most once: an end that waits for the message it takes, under the next token of its side.
-use Rattle.std.proofs.Common.{◌≡◌, ◌∙◌, ◌==◌, ◌⊎◌, inl, inr, ℕ, ◌<◌, Bool, true, false, not, if◌then◌else◌, List, [], ◌∷◌, length, filter_map, refl, ap, sym, ◌&&◌, true≢false}
+use Rattle.std.proofs.Common.{◌≡◌, ◌∙◌, ◌==◌, ◌⊎◌, inl, inr, ℕ, Bool, true, false, not, if◌then◌else◌, List, [], ◌∷◌, length, filter_map, refl, ap, sym, ◌&&◌, true≢false}
 use Rattle.std.specs.Prelude.{Some, None, option_map, unwrap_or}
 use Rattle.std.specs.List.{cons_option}
 use Rattle.smc_num.specs.declared.Side.{Side}
@@ -27,7 +27,6 @@ use Rattle.pipe_model.specs.declared.post.Post.{Post}
 use Rattle.pipe_model.specs.declared.post.Post.TheVariants.{Write as WritePost, Cdc, Llc, Clc}
 use Rattle.pipe_model.specs.declared.entry.Entry.{Entry}
 use Rattle.pipe_model.specs.History.{Offered, offered, offer_in, offered_if}
-use Rattle.pipe_model.specs.Lending.{lends}
 use Rattle.pipe_model.specs.Connections.{EndState, NoEnd, WaitsProposal, WaitsAnswer, WaitsConfirm, WaitsLink, IsUp, HasFallen, WasReset, end_state}
 use Rattle.pipe_model.specs.Handshake.{key_step, on_proposal, on_accept, on_confirm, verdict, lacks}
 use Rattle.pipe_model.specs.Flows.{is_asked, is_deleting}
@@ -35,7 +34,7 @@ use Rattle.pipe_model.specs.Fabric.{act_of}
 use Rattle.pipe_model.specs.Wires.{landing}
 use Rattle.pipe_model.specs.Fallback.{Front, NoMessage, Faulty, Whole, front, is_raw}
 use Rattle.pipe_model.specs.Connections.{named_link}
-use Rattle.pipe_model.specs.Posts.{next_token, new_offer, clc_posts, ready_posts, first_link, fewest}
+use Rattle.pipe_model.specs.Posts.{new_offer, clc_posts, ready_posts, first_link, fewest}
 use Rattle.pipe_model.specs.Replies.{clc_step}
 use Rattle.pipe_model.specs.Lawful.{front_posts, asked}
 use Rattle.world_core.specs.Played.{IsBuilt}
@@ -174,17 +173,14 @@ pub record HasSocketAt (setup : Setup) (s : ℕ) (past : List Entry) : Type 0 wh
 pub record NoOffers (ps : List Post) : Type 0 where
   pub offers : (x : Side) (s : ℕ) → filter_map (offer_in x s) ps ≡ []
 
--- one offer of a side on a socket, with one lending
-pub record OneOffer (setup : Setup) (event : Event) (past : List Entry) (ps : List Post) : Type 0 where
+-- one offer of a side on a socket
+pub record OneOffer (event : Event) (past : List Entry) (ps : List Post) : Type 0 where
   pub y : Side
   pub t : ℕ
   pub offer : Offered
   pub event_is : event ≡ ClcEvent t (other y)
-  pub token : offer.offer.token ≡ next_token y past
-  pub known : t < setup.sockets
   pub new : offered y t past ≡ None
   pub offers : (x : Side) (s : ℕ) → filter_map (offer_in x s) ps ≡ (if same_side x y && (s == t) then offer ∷ [] else [])
-  pub lends_one : length (filter_map (lends y) ps) ≡ 1
 
 llc-none : (ps : List Post) → EachPost IsLlc ps → NoOffers ps
 llc-none ps p = record { offers = λ x s. by x s ps p }
@@ -207,38 +203,32 @@ one-of false link o = refl
 sides-differ : A ≡ B → ⊥
 sides-differ e = true≢false (ap (λ x. same_side A x) e)
 
-module _ (setup : Setup) (payload : List ℕ) (past : List Entry) (t : ℕ) (known : t < setup.sockets) (k : Socket) (at : StandsAt setup k t past) where
+module _ (setup : Setup) (payload : List ℕ) (past : List Entry) (t : ℕ) (k : Socket) (at : StandsAt setup k t past) where
   state-is : (test : EndState → Bool) (y : Side) → test (end_state y t past) ≡ true → test (end_at k y) ≡ true
   state-is test y e = ap (λ s. test s) (sym (end-is setup k t past at y)) ∙ e
 
-  accept-offers : (link : LinkId) (first : Bool) → waits_proposal (end_state B t past) ≡ true → OneOffer setup (ClcEvent t A) past (Clc B t (Some link) (AcceptMessage (new_offer setup payload B first link past)) ∷ [])
+  accept-offers : (link : LinkId) (first : Bool) → waits_proposal (end_state B t past) ≡ true → OneOffer (ClcEvent t A) past (Clc B t (Some link) (AcceptMessage (new_offer setup payload B first link past)) ∷ [])
   accept-offers link first w = let q = proposal-at k B (state-is waits_proposal B w) in record {
     y = B;
     t = t;
     offer = record { link = link; offer = new_offer setup payload B first link past };
     event_is = refl;
-    token = refl;
-    known = known;
     new = at.offer B ∙ q.1;
     offers = λ x s. by x s;
-    lends_one = refl;
   }
     where
       by : (x : Side) (s : ℕ) → filter_map (offer_in x s) (Clc B t (Some link) (AcceptMessage (new_offer setup payload B first link past)) ∷ []) ≡ (if same_side x B && (s == t) then record { link = link; offer = new_offer setup payload B first link past } ∷ [] else [])
       by A s = refl
       by B s = one-of (s == t) link (new_offer setup payload B first link past)
 
-  confirm-offers : (link : LinkId) (first : Bool) → waits_answer (end_state A t past) ≡ true → OneOffer setup (ClcEvent t B) past (Clc A t (Some link) (ConfirmMessage (new_offer setup payload A first link past)) ∷ [])
+  confirm-offers : (link : LinkId) (first : Bool) → waits_answer (end_state A t past) ≡ true → OneOffer (ClcEvent t B) past (Clc A t (Some link) (ConfirmMessage (new_offer setup payload A first link past)) ∷ [])
   confirm-offers link first w = let q = answer-at k A (state-is waits_answer A w) in record {
     y = A;
     t = t;
     offer = record { link = link; offer = new_offer setup payload A first link past };
     event_is = refl;
-    token = refl;
-    known = known;
     new = at.offer A ∙ q.1;
     offers = λ x s. by x s;
-    lends_one = refl;
   }
     where
       by : (x : Side) (s : ℕ) → filter_map (offer_in x s) (Clc A t (Some link) (ConfirmMessage (new_offer setup payload A first link past)) ∷ []) ≡ (if same_side x A && (s == t) then record { link = link; offer = new_offer setup payload A first link past } ∷ [] else [])
@@ -246,7 +236,7 @@ module _ (setup : Setup) (payload : List ℕ) (past : List Entry) (t : ℕ) (kno
       by B s = refl
 
   abbrev Offers : Event → List Post → Type 0
-  Offers event ps = NoOffers ps ⊎ OneOffer setup event past ps
+  Offers event ps = NoOffers ps ⊎ OneOffer event past ps
 
   none : (event : Event) → Offers event []
   none event = inl (record { offers = λ x s. refl })
@@ -317,9 +307,9 @@ open-offers setup payload past s _ = no-offers-in
 
 -- what an event makes handshake and flows offer: nothing, or once
 pub asked-offers : (setup : Setup) (payload : List ℕ) (past : List Entry) → ((s : ℕ) → HasSocketAt setup s past) → (event : Event) (reply : Reply) → IsBuilt setup (length payload) event →
-    NoOffers (asked setup payload past event reply) ⊎ OneOffer setup event past (asked setup payload past event reply)
+    NoOffers (asked setup payload past event reply) ⊎ OneOffer event past (asked setup payload past event reply)
 asked-offers setup payload past h (Open s) reply b = inl (open-offers setup payload past s reply)
-asked-offers setup payload past h (ClcEvent t dir) reply b = let q = h t in clc-offers setup payload past t b q.at q.stands dir reply
+asked-offers setup payload past h (ClcEvent t dir) reply b = let q = h t in clc-offers setup payload past t q.at q.stands dir reply
 asked-offers setup payload past h (Write end from len) reply b = inl no-offers-in
 asked-offers setup payload past h (Read end len) reply b = inl no-offers-in
 asked-offers setup payload past h (Deliver slot dir) reply b = inl (llc-none _ (of-act setup (other dir) past (act_of (other dir) (option_map (λ c. c.post) (landing slot dir past)) past)))

@@ -41,7 +41,8 @@ use Rattle.world_core.specs.Sending.{carried_from, goes_on_wire, moved, acting_s
 use Rattle.world_core.proofs.Handshaken.{shaken, has-offers, gives-items}
 use Rattle.world_core.proofs.PlayedWorlds.{played}
 use Rattle.world_core.proofs.Idle.{idle}
-use Rattle.world_core.proofs.Parts.{part-open, up-is}
+use Rattle.world_core.proofs.Parts.{part-open}
+use Rattle.world_core.proofs.UpEnds.{pipe-is-up}
 use Rattle.world_core.proofs.Own.{grouped}
 use Rattle.world_core.proofs.Growth.{sent-since}
 use Rattle.world_core.proofs.LinkFacts.{up-has-offers}
@@ -112,7 +113,7 @@ module _ (setup : Setup) (one : IsOneLink setup) (payload : List ℕ) (e : Entry
         by : (b : Bool) → is_up x s (e ∷ past) ≡ b → b ≡ true
         by true u = refl
         by false u = absurd (some-in (half_of setup payload x s past).sent sent (Then x s).sent with-one
-            (idle (terms_of setup) x (part payload 1 s (e ∷ past)) (part-open setup payload 1 s (e ∷ past) n p knows) (up-is setup payload (terms_of setup) x 1 s (e ∷ past) n p knows ∙ u)))
+            (idle (terms_of setup) x (part payload 1 s (e ∷ past)) (part-open setup payload 1 s (e ∷ past) n p knows) (pipe-is-up (terms_of setup) x payload 1 s (e ∷ past) ∙ u)))
 
     still : offered (other x) s (e ∷ past) ≡ Some o
     still = let go : GoesOn e past = gives.goes_on in go.kept (other x) s o f

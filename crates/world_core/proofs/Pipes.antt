@@ -22,7 +22,8 @@ use Rattle.world_core.specs.Agreement.{HasOffers, IsShaken, CanBe, HasPipe}
 use Rattle.world_core.proofs.OpenEnds.{half-open, never-over}
 use Rattle.world_core.proofs.Idle.{idle, on-link}
 use Rattle.world_core.proofs.EntryItems.{each-more, items-are, below, below-calm, is_fate_or_up}
-use Rattle.world_core.proofs.Parts.{part-open, part-on, up-is, up-offered, not-before}
+use Rattle.world_core.proofs.Parts.{part-open, part-on, up-offered, not-before}
+use Rattle.world_core.proofs.UpEnds.{pipe-is-up}
 use Rattle.world_core.proofs.Feasible.{is_no_message, can-more}
 use Rattle.world_core.proofs.Own.{own-none, grouped}
 use Rattle.world_core.proofs.Agreed.{fate-or-up-no-message}
@@ -81,7 +82,7 @@ module _ (setup : Setup) (payload : List ℕ) where
       let g : ℕ = group_on s past in
       let c : CanBe (terms_of setup) (part payload g s past) = can-by s past n p h (offered B s past) refl in
       let k = part-open setup payload g s past n p h in
-      let u : ((x : Side) → (half x (pipe_of setup payload g s past)).up ≡ is_up x s past) = λ x. up-is setup payload (terms_of setup) x g s past n p h in
+      let u : ((x : Side) → (half x (pipe_of setup payload g s past)).up ≡ is_up x s past) = λ x. pipe-is-up (terms_of setup) x payload g s past in
       record {
         can_be = c;
         near = unswallowed-near (terms_of setup) (part payload g s past) c.feasible c.whole;

@@ -20,7 +20,7 @@ use Rattle.pipe_model.proofs.Settled.{nothing-due}
 use Rattle.world_core.specs.Wired.{EachItem, keeps_open, IsOpenEnd, IsOpenSent}
 use Rattle.world_core.proofs.OpenEnds.{half-open, each-head, MaySent, takes-open-is}
 use Rattle.world_core.proofs.Growth.{either, settled-half}
-use Rattle.world_core.proofs.Parts.{raises, step-up, apply-up}
+use Rattle.world_core.proofs.UpEnds.{raises, step-up, apply-up}
 
 -- an end that is not due settles as it is
 settle-same : (depth : ℕ) (h : Half) → is_due depth h ≡ false → settle depth h ≡ h
@@ -188,8 +188,8 @@ untouched t A [] k c u = first-untouched t.number
 untouched t B [] k c u = first-untouched t.number
 untouched t x (item ∷ items) k c u =
     let p : Pipe = pipe t items in
-    let d : (half x p).up ≡ false = or-none (raises x item) (half x p).up (sym (step-up t x item p k.0) ∙ u) in
-    let a : (half x (apply t.size item p)).up ≡ false = apply-up t.size x item p k.0 ∙ sym (step-up t x item p k.0) ∙ u in
+    let d : (half x p).up ≡ false = or-none (raises x item) (half x p).up (sym (step-up t x item p) ∙ u) in
+    let a : (half x (apply t.size item p)).up ≡ false = apply-up t.size x item p ∙ sym (step-up t x item p) ∙ u in
     subst (λ h. IsUntouched h) (sym (settled-half t x item p ∙ settle-same t.depth (half x (apply t.size item p)) (not-due-down t.depth (half x (apply t.size item p)) a)))
     (untouched-by (half x p) (half x (apply t.size item p)) (own-apply t.size x item p k.0 c.0 d) (untouched t x items k.1 c.1 d))
 

@@ -22,8 +22,8 @@ use Rattle.world_core.specs.OneLink.{the_link}
 use Rattle.world_core.specs.Wired.{EachItem, keeps_open}
 use Rattle.world_core.specs.Agreement.{GoesOn, IsShaken}
 use Rattle.world_core.proofs.Idle.{same-fate, same-call, same-takes, same-completes}
-use Rattle.world_core.proofs.EntryItems.{each-more, items-are, below, below-calm, is_fate_or_up, fate-or-up-open}
-use Rattle.world_core.proofs.Parts.{up-is, news-up, raised}
+use Rattle.world_core.proofs.EntryItems.{items-are, below, below-calm, is_fate_or_up}
+use Rattle.world_core.proofs.UpEnds.{pipe-is-up, news-up, raised}
 use Rattle.world_core.proofs.Quiet.{all-spared, landing-quiet, again-quiet, new-quiet, one-more, IsCallUp, AreCallsUp}
 
 -- what an entry makes a connection do is one thing at most
@@ -186,8 +186,8 @@ module _ (setup : Setup) (payload : List ℕ) (t : Terms) where
   -- an end of the pipe is up below the deeds too
   up-below : (x : Side) (g s : ℕ) (e : Entry) (past : List Entry) (n : ℕ) → IsPlayed setup payload past n → IsShaken setup past → GoesOn e past → is_up x s past ≡ true → (half x (pipe t (below g s e past ++ part payload g s past))).up ≡ true
   up-below x g s e past n p h go u =
-      news-up t x (below g s e past) (part payload g s past) (each-more is_fate_or_up keeps_open fate-or-up-open (below g s e past) (below-calm g s e past go)) ∙
-      ap (λ b. raised x (below g s e past) || b) (up-is setup payload t x g s past n p h ∙ u) ∙ or-true (raised x (below g s e past))
+      news-up t x (below g s e past) (part payload g s past) ∙
+      ap (λ b. raised x (below g s e past) || b) (pipe-is-up t x payload g s past ∙ u) ∙ or-true (raised x (below g s e past))
 
   pub calls-up : (g s : ℕ) (past : List Entry) (n : ℕ) → IsPlayed setup payload past n → IsShaken setup past → AreCallsUp t (part payload g s past)
   calls-up g s [] n p h = tt

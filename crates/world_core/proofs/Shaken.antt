@@ -1,8 +1,7 @@
 -- The handshake gives what the pipes need of it: the one link, the offers and the ends that come up.
-use Rattle.std.proofs.Common.{◌≡◌, ◌∙◌, ◌==◌, ◌⊎◌, inl, inr, ℕ, ◌+◌, ◌≤◌, Bool, true, false, if◌then◌else◌, List, [], ◌∷◌, ◌++◌, length, filter_map, refl, ap, sym, ◌&&◌, true≢false, arith, eqb-true, length-append}
+use Rattle.std.proofs.Common.{◌≡◌, ◌∙◌, ◌==◌, ◌⊎◌, inl, inr, ℕ, Bool, true, false, if◌then◌else◌, List, [], ◌∷◌, filter_map, refl, ap, sym, ◌&&◌, true≢false, eqb-true}
 use Rattle.std.specs.Prelude.{Option, Some, None, is_some, unwrap_or}
 use Rattle.std.specs.Option.{option_or}
-use Rattle.std.proofs.lemmas.List.Elements.{filter_map-append}
 use Rattle.smc_num.specs.declared.Side.{Side}
 use Rattle.smc_num.specs.declared.Side.TheVariants.{A, B}
 use Rattle.smc_num.specs.Names.{same_side, head}
@@ -11,7 +10,6 @@ use Rattle.pipe_model.specs.declared.setup.Setup.{Setup}
 use Rattle.pipe_model.specs.declared.entry.Entry.{Entry}
 use Rattle.pipe_model.specs.History.{Offered, offered, offer_in}
 use Rattle.pipe_model.specs.Fabric.{Fabric, latest}
-use Rattle.pipe_model.specs.Lending.{lends, lendings}
 use Rattle.pipe_model.specs.Posts.{connection_posts}
 use Rattle.pipe_model.specs.Lawful.{draft}
 use Rattle.world_core.specs.Played.{IsMade}
@@ -121,20 +119,9 @@ module _ (setup : Setup) (payload : List ℕ) (e : Entry) (past : List Entry) (b
   offered-then : (x : Side) (s : ℕ) → offered x s (e ∷ past) ≡ option_or (head (filter_map (offer_in x s) D.posts)) (offered x s past)
   offered-then x s = ap (λ os. option_or (head os) (offered x s past)) (entry-offers x s)
 
-  pub lendings-grow : (x : Side) → length (lendings x (e ∷ past)) ≡ length (filter_map (lends x) e.posts) + length (lendings x past)
-  lendings-grow x = length-append (filter_map (lends x) e.posts) (lendings x past)
-
-  pub lends-more : (x : Side) → length (filter_map (lends x) D.posts) ≤ length (filter_map (lends x) e.posts)
-  lends-more x =
-      let q : filter_map (lends x) e.posts ≡ filter_map (lends x) D.posts ++ filter_map (lends x) (connection_posts setup payload D past) =
-      ap (λ ps. filter_map (lends x) ps) made.posts ∙ filter_map-append (lends x) D.posts (connection_posts setup payload D past) in
-      let n : length (filter_map (lends x) e.posts) ≡ length (filter_map (lends x) D.posts) + length (filter_map (lends x) (connection_posts setup payload D past)) =
-      ap (λ ls. length ls) q ∙ length-append (filter_map (lends x) D.posts) (filter_map (lends x) (connection_posts setup payload D past)) in
-      omega (arith, n)
-
   -- nothing offered, or once
   abbrev pub Choice : Type 0
-  Choice = NoOffers D.posts ⊎ OneOffer setup e.event past D.posts
+  Choice = NoOffers D.posts ⊎ OneOffer e.event past D.posts
 
   pub offered-none : NoOffers D.posts → (x : Side) (s : ℕ) → offered x s (e ∷ past) ≡ offered x s past
   offered-none c x s = offered-then x s ∙ ap (λ os. option_or (head os) (offered x s past)) (c.offers x s)
@@ -142,7 +129,7 @@ module _ (setup : Setup) (payload : List ℕ) (e : Entry) (past : List Entry) (b
   abbrev if_there : Bool → Offered → Option Offered → Option Offered
   if_there b o old = option_or (head (if b then o ∷ [] else [])) old
 
-  offered-one : (c : OneOffer setup e.event past D.posts) (x : Side) (s : ℕ) → offered x s (e ∷ past) ≡ if_there (same_side x c.y && (s == c.t)) c.offer (offered x s past)
+  offered-one : (c : OneOffer e.event past D.posts) (x : Side) (s : ℕ) → offered x s (e ∷ past) ≡ if_there (same_side x c.y && (s == c.t)) c.offer (offered x s past)
   offered-one c x s = offered-then x s ∙ ap (λ os. option_or (head os) (offered x s past)) (c.offers x s)
 
   same-is : (x y : Side) → same_side x y ≡ true → x ≡ y
@@ -168,7 +155,7 @@ module _ (setup : Setup) (payload : List ℕ) (e : Entry) (past : List Entry) (b
           absurd (is-none o (sym f ∙ same ∙ c.new))
 
   -- an offer after an entry is an old one, or the new one
-  pub old-or-new : (c : OneOffer setup e.event past D.posts) (x : Side) (s : ℕ) (o : Offered) → offered x s (e ∷ past) ≡ Some o → (offered x s past ≡ Some o) ⊎ ((x ≡ c.y) × ((s ≡ c.t) × (c.offer ≡ o)))
+  pub old-or-new : (c : OneOffer e.event past D.posts) (x : Side) (s : ℕ) (o : Offered) → offered x s (e ∷ past) ≡ Some o → (offered x s past ≡ Some o) ⊎ ((x ≡ c.y) × ((s ≡ c.t) × (c.offer ≡ o)))
   old-or-new c x s o f = by (same_side x c.y && (s == c.t)) refl
     where
       by : (b : Bool) → (same_side x c.y && (s == c.t)) ≡ b → (offered x s past ≡ Some o) ⊎ ((x ≡ c.y) × ((s ≡ c.t) × (c.offer ≡ o)))

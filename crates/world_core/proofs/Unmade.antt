@@ -28,7 +28,8 @@ use Rattle.world_core.specs.Wired.{cdc_under, if_meant, cdcs, message, returning
 use Rattle.world_core.specs.WireSteps.{EachPlaced}
 use Rattle.world_core.specs.Agreement.{HasOffers, IsElse, Agree}
 use Rattle.world_core.proofs.Idle.{idle}
-use Rattle.world_core.proofs.Parts.{part-open, up-is}
+use Rattle.world_core.proofs.Parts.{part-open}
+use Rattle.world_core.proofs.UpEnds.{pipe-is-up}
 use Rattle.world_core.proofs.Agreement.{agrees}
 use Rattle.world_core.proofs.Heads.{unlanded-there, uncompleted-there, Gave, gave}
 use Rattle.world_core.proofs.PlayedWorlds.{played}
@@ -153,7 +154,7 @@ idle-link setup one payload x past n p none =
     agree = agrees setup payload past n p (shaken setup one payload past n p)
 
     sent : (s : ℕ) → (half x (pipe_of setup payload 1 s past)).sent ≡ []
-    sent s = idle (terms_of setup) x (part payload 1 s past) (part-open setup payload 1 s past n p (shaken setup one payload past n p)) (up-is setup payload (terms_of setup) x 1 s past n p (shaken setup one payload past n p) ∙ down s)
+    sent s = idle (terms_of setup) x (part payload 1 s past) (part-open setup payload 1 s past n p (shaken setup one payload past n p)) (pipe-is-up (terms_of setup) x payload 1 s past ∙ down s)
 
     offers : HasOffers setup past
     offers = has-offers setup one payload past n p

@@ -1,18 +1,17 @@
 -- An end of a private pipe is up just where its end in the history is, after every list of entries, and one that is not up posts nothing.
-use Rattle.std.proofs.Common.{◌≡◌, ap, refl, sym, ◌∙◌}
-use Rattle.std.specs.Prelude.{reverse, Bool, List, None, Option, Some, [], drop, false, if◌then◌else◌, length, min, not, take, true, ℕ, ◌&&◌, ◌++◌, ◌+◌, ◌||◌, ◌∷◌, filter_map, flat_map, is_some, option_map, option_to_list, ◌==◌}
-use Rattle.std.specs.List.{list_any, cons_option}
+use Rattle.std.proofs.Common.{true≢false, ◌≡◌, ap, refl, sym, ◌∙◌}
+use Rattle.std.specs.Prelude.{reverse, Bool, List, None, Option, Some, [], drop, false, if◌then◌else◌, length, min, not, take, true, ℕ, ◌&&◌, ◌++◌, ◌+◌, ◌||◌, ◌∷◌, flat_map, is_some, option_map, option_to_list, ◌==◌}
+use Rattle.std.specs.List.{list_any}
 use Rattle.std.proofs.Math.Seq.{drop-length}
-use Rattle.std.proofs.lemmas.List.{reverse-append}
 use Rattle.std.proofs.lemmas.List.Folds.{list_any-append}
 use Rattle.smc_num.specs.declared.LinkPhase.TheVariants.{Unused, Pending, Live as LiveLink, Dead}
 use Rattle.pipe_model.specs.declared.event.Event.TheVariants.{Write, Read, Finish, Close, Abort, Await, Deliver, Complete, Swallow, Move}
 use Rattle.pipe_model.specs.declared.reply.ResetCause.TheVariants.{PeerAbort, Gap}
 use Rattle.pipe_model.specs.declared.sent.Sent.{Sent as Message}
 use Rattle.pipe_model.specs.Pipe.{Terms, Item, Fate, GroupEnd, Up, Calls, Lands, Completes, Pipe, half, apply, step, pipe, posts_of}
-use Rattle.pipe_model.specs.Ends.{Half, window, unread, is_due, posts_batch, settle, meets_fate, comes_up, takes, takes_snapshot, validates, strikes, completes, counts_completed, moves, is_due_for_move, lowest_link, check, to_land, to_complete, is_over}
+use Rattle.pipe_model.specs.Ends.{Half, window, unread, is_due, posts_batch, settle, meets_fate, takes, takes_snapshot, validates, strikes, completes, counts_completed, moves, is_due_for_move, lowest_link, check, to_land, to_complete, is_over}
 use Rattle.pipe_model.specs.Calls.{Call, Writes, Reads, Finishes, Closes, Aborts, Awaits, Moves, calls}
-use Rattle.pipe_model.specs.Connections.{is_up, items, part, comes_up as comes_up_with, ups, fates, fate_of, group_end, deeds, is_own, landed_at, completed_at, group_on, is_fate, phase_of}
+use Rattle.pipe_model.specs.Connections.{is_up, items, part, comes_up as comes_up_with, ups, fates, group_end, deeds, is_own, landed_at, completed_at, group_on}
 use Rattle.smc_num.specs.declared.Side.{Side}
 use Rattle.smc_num.specs.declared.LinkId.{LinkId}
 use Rattle.smc_num.specs.declared.Side.TheVariants.{A, B}
@@ -28,9 +27,10 @@ use Rattle.pipe_model.specs.declared.reply.Reply.{Reply}
 use Rattle.pipe_model.specs.Lending.{terms_of}
 use Rattle.pipe_model.specs.Posts.{end_posts, sent_posts}
 use Rattle.pipe_model.specs.declared.setup.Setup.{Setup}
-use Rattle.smc_num.specs.Links.{Known, same_phase}
-use Rattle.pipe_model.specs.Fabric.{loses_group_with, table_of}
+use Rattle.pipe_model.specs.Fabric.{loses_group_with}
 use Rattle.pipe_model.specs.declared.event.Event.{Event}
+use Rattle.world_core.specs.Wired.{EachItem}
+use Rattle.world_core.proofs.EntryItems.{fates-no-up, is_no_up}
 
 -- an end that is as up as another, and has sent the same where it is not
 pub record KeepsUp (h k : Half) : Type 0 where
@@ -118,13 +118,17 @@ completed-by : (m : Option Message) (h : Half) → KeepsUp h (completes m h)
 completed-by None h = keeps-it h
 completed-by (Some m) h = keeps-either m.check h (counts_completed h) (record (counts_completed h) { fin = m.snapshot; flight = drop 1 h.flight; phase = after_completing m.snapshot h.phase }) (record { up = refl; sent = λ e. refl }) (record { up = refl; sent = λ e. refl })
 
--- whether an item is the establishment of the end at a side
-abbrev pub is_up_of : Side → Item → Bool
-is_up_of x (Up y link) = same_side x y
-is_up_of x _ = false
+-- whether an item establishes the end at a side
+abbrev pub raises : Side → Item → Bool
+raises x (Up y link) = same_side x y
+raises x _ = false
+
+-- whether one of them does
+abbrev pub raised : Side → List Item → Bool
+raised x is = list_any (raises x) is
 
 -- an item that is not keeps it
-applied : (size : ℕ) (x : Side) (item : Item) (p : Pipe) → is_up_of x item ≡ false → KeepsUp (half x p) (half x (apply size item p))
+applied : (size : ℕ) (x : Side) (item : Item) (p : Pipe) → raises x item ≡ false → KeepsUp (half x p) (half x (apply size item p))
 applied size A (Fate A link phase) p e = fated link phase p.a
 applied size A (Fate B link phase) p e = keeps-it p.a
 applied size B (Fate A link phase) p e = keeps-it p.b
@@ -150,39 +154,49 @@ applied size A (Completes B) p e = keeps-it p.a
 applied size B (Completes A) p e = keeps-it p.b
 applied size B (Completes B) p e = completed-by (head (to_complete p.b)) p.b
 
-stepped : (t : Terms) (x : Side) (item : Item) (p : Pipe) → is_up_of x item ≡ false → KeepsUp (half x p) (half x (step t item p))
+stepped : (t : Terms) (x : Side) (item : Item) (p : Pipe) → raises x item ≡ false → KeepsUp (half x p) (half x (step t item p))
 stepped t A item p e = keeps-both p.a (apply t.size item p).a (settle t.depth (apply t.size item p).a) (applied t.size A item p e) (settles t.depth (apply t.size item p).a)
 stepped t B item p e = keeps-both p.b (apply t.size item p).b (settle t.depth (apply t.size item p).b) (applied t.size B item p e) (settles t.depth (apply t.size item p).b)
 
--- and one that is brings it up
-risen : (t : Terms) (x : Side) (item : Item) (p : Pipe) → is_up_of x item ≡ true → (half x (step t item p)).up ≡ true
-risen t A (Up A link) p e = let s = settles t.depth (comes_up link p.a) in s.up
-risen t B (Up B link) p e = let s = settles t.depth (comes_up link p.b) in s.up
-risen t A (Up B link) p e = cc
-risen t B (Up A link) p e = cc
-risen t x (Fate y link phase) p e = cc
-risen t x (GroupEnd y) p e = cc
-risen t x (Calls y call) p e = cc
-risen t x (Lands y) p e = cc
-risen t x (Completes y) p e = cc
+-- and one that does brings it up
+risen : (size : ℕ) (x : Side) (item : Item) (p : Pipe) → raises x item ≡ true → (half x (apply size item p)).up ≡ true
+risen size A (Up A link) p e = refl
+risen size B (Up B link) p e = refl
+risen size A (Up B link) p e = cc
+risen size B (Up A link) p e = cc
+risen size x (Fate y link phase) p e = cc
+risen size x (GroupEnd y) p e = cc
+risen size x (Calls y call) p e = cc
+risen size x (Lands y) p e = cc
+risen size x (Completes y) p e = cc
 
--- an end is up once an item has brought it up
-up-after : (t : Terms) (x : Side) (is : List Item) → (half x (pipe t is)).up ≡ list_any (is_up_of x) is
-up-after t A [] = refl
-up-after t B [] = refl
-up-after t x (item ∷ is) = by_test (is_up_of x item) refl (up-after t x is)
+pub apply-up : (size : ℕ) (x : Side) (item : Item) (p : Pipe) → (half x (apply size item p)).up ≡ (raises x item || (half x p).up)
+apply-up size x item p = by_test (raises x item) refl
   where
-    by_test : (b : Bool) → is_up_of x item ≡ b → (half x (pipe t is)).up ≡ list_any (is_up_of x) is → (half x (step t item (pipe t is))).up ≡ (b || list_any (is_up_of x) is)
-    by_test true e rest = risen t x item (pipe t is) e
-    by_test false e rest = let s = stepped t x item (pipe t is) e in s.up ∙ rest
+    by_test : (b : Bool) → raises x item ≡ b → (half x (apply size item p)).up ≡ (b || (half x p).up)
+    by_test true e = risen size x item p e
+    by_test false e = let s = applied size x item p e in s.up
+
+pub step-up : (t : Terms) (x : Side) (item : Item) (p : Pipe) → (half x (step t item p)).up ≡ (raises x item || (half x p).up)
+step-up t A item p = let s = settles t.depth (apply t.size item p).a in s.up ∙ apply-up t.size A item p
+step-up t B item p = let s = settles t.depth (apply t.size item p).b in s.up ∙ apply-up t.size B item p
+
+or-shift : (a b c : Bool) → (a || (b || c)) ≡ ((a || b) || c)
+or-shift true b c = refl
+or-shift false b c = refl
+
+-- some news establish an end, or it was so before
+pub news-up : (t : Terms) (x : Side) (news items : List Item) → (half x (pipe t (news ++ items))).up ≡ (raised x news || (half x (pipe t items)).up)
+news-up t x [] items = refl
+news-up t x (item ∷ news) items = step-up t x item (pipe t (news ++ items)) ∙ ap (λ b. raises x item || b) (news-up t x news items) ∙ or-shift (raises x item) (raised x news) (half x (pipe t items)).up
 
 -- an end that is not up has sent nothing since
 silent-after : (t : Terms) (x : Side) (news is : List Item) → (half x (pipe t (news ++ is))).up ≡ false → (half x (pipe t (news ++ is))).sent ≡ (half x (pipe t is)).sent
 silent-after t x [] is e = refl
-silent-after t x (item ∷ news) is e = by_test (is_up_of x item) refl (silent-after t x news is)
+silent-after t x (item ∷ news) is e = by_test (raises x item) refl (silent-after t x news is)
   where
-    by_test : (b : Bool) → is_up_of x item ≡ b → ((half x (pipe t (news ++ is))).up ≡ false → (half x (pipe t (news ++ is))).sent ≡ (half x (pipe t is)).sent) → (half x (step t item (pipe t (news ++ is)))).sent ≡ (half x (pipe t is)).sent
-    by_test true f rest = let r = risen t x item (pipe t (news ++ is)) f in let wrong : true ≡ false = sym r ∙ e in cc
+    by_test : (b : Bool) → raises x item ≡ b → ((half x (pipe t (news ++ is))).up ≡ false → (half x (pipe t (news ++ is))).sent ≡ (half x (pipe t is)).sent) → (half x (step t item (pipe t (news ++ is)))).sent ≡ (half x (pipe t is)).sent
+    by_test true f rest = let wrong : true ≡ false = ap (λ b. b || (half x (pipe t (news ++ is))).up) (sym f) ∙ (sym (step-up t x item (pipe t (news ++ is))) ∙ e) in cc
     by_test false f rest = let s = stepped t x item (pipe t (news ++ is)) f in let low : (half x (pipe t (news ++ is))).up ≡ false = sym s.up ∙ e in s.sent low ∙ rest low
 
 pub silent : (t : Terms) (x : Side) (news is : List Item) → (half x (pipe t (news ++ is))).up ≡ false → posts_of t x news is ≡ []
@@ -190,35 +204,48 @@ silent t x news is e =
     ap (λ (ms : List Message). drop (length (half x (pipe t is)).sent) ms) (silent-after t x news is e) ∙ drop-length (half x (pipe t is)).sent
 
 -- which items of an entry bring an end up
-any-reverse : (f : Item → Bool) (is : List Item) → list_any f (reverse is) ≡ list_any f is
-any-reverse f [] = refl
-any-reverse f (item ∷ is) =
-    ap (λ (js : List Item). list_any f js) (reverse-append (item ∷ []) is)
-    ∙ (list_any-append f (reverse is) (item ∷ []) ∙ (ap (λ b. b || (f item || false)) (any-reverse f is) ∙ swapped (f item) (list_any f is)))
-  where
-    swapped : (a b : Bool) → (b || (a || false)) ≡ (a || b)
-    swapped true true = refl
-    swapped true false = refl
-    swapped false true = refl
-    swapped false false = refl
+pub raised-none : (x : Side) (is : List Item) → EachItem is_no_up is → raised x is ≡ false
+raised-none x [] p = refl
+raised-none x (Fate y l phase ∷ is) p = raised-none x is p.1
+raised-none x (GroupEnd y ∷ is) p = raised-none x is p.1
+raised-none x (Up y l ∷ is) p = absurd (true≢false (sym p.0))
+raised-none x (Calls y call ∷ is) p = raised-none x is p.1
+raised-none x (Lands y ∷ is) p = raised-none x is p.1
+raised-none x (Completes y ∷ is) p = raised-none x is p.1
 
-none-in-fate : (x y : Side) (group : ℕ) (before : List Known) (ks : List Known) → list_any (is_up_of x) (filter_map (fate_of y group before) ks) ≡ false
-none-in-fate x y group before [] = refl
-none-in-fate x y group before (k ∷ ks) = by_test ((k.link.group == group) && (is_fate k.phase && not (same_phase k.phase (phase_of k.link before)))) (none-in-fate x y group before ks)
-  where
-    by_test : (b : Bool) → list_any (is_up_of x) (filter_map (fate_of y group before) ks) ≡ false → list_any (is_up_of x) (cons_option (if b then Some (Fate y k.link k.phase) else None) (filter_map (fate_of y group before) ks)) ≡ false
-    by_test true rest = rest
-    by_test false rest = rest
+abbrev of-side : Side → Option LinkId → Option LinkId → Bool
+of-side A a b = is_some a
+of-side B a b = is_some b
 
-none-in-end : (x : Side) (b : Bool) (y : Side) → list_any (is_up_of x) (if b then GroupEnd y ∷ [] else []) ≡ false
-none-in-end x true y = refl
-none-in-end x false y = refl
+raised-ups : (x : Side) (a b : Option LinkId) → raised x (reverse (option_to_list (option_map (Up A) a) ++ option_to_list (option_map (Up B) b))) ≡ of-side x a b
+raised-ups A None None = refl
+raised-ups A None (Some l) = refl
+raised-ups A (Some l) None = refl
+raised-ups A (Some l) (Some k) = refl
+raised-ups B None None = refl
+raised-ups B None (Some l) = refl
+raised-ups B (Some l) None = refl
+raised-ups B (Some l) (Some k) = refl
 
-none-if : (x : Side) (b : Bool) (item : Item) → is_up_of x item ≡ false → list_any (is_up_of x) (if b then item ∷ [] else []) ≡ false
+of-side-is : (x : Side) (s : ℕ) (e : Entry) (past : List Entry) → of-side x (comes_up_with A s e past) (comes_up_with B s e past) ≡ is_some (comes_up_with x s e past)
+of-side-is A s e past = refl
+of-side-is B s e past = refl
+
+ends-none : (x : Side) (a b : Bool) → raised x (reverse ((if a then GroupEnd A ∷ [] else []) ++ (if b then GroupEnd B ∷ [] else []))) ≡ false
+ends-none x true true = refl
+ends-none x true false = refl
+ends-none x false true = refl
+ends-none x false false = refl
+
+or-none : (b : Bool) → (b || false) ≡ b
+or-none true = refl
+or-none false = refl
+
+none-if : (x : Side) (b : Bool) (item : Item) → raises x item ≡ false → list_any (raises x) (if b then item ∷ [] else []) ≡ false
 none-if x true item e = ap (λ b. b || false) e
 none-if x false item e = refl
 
-none-in-deeds : (x : Side) (payload : List ℕ) (s : ℕ) (event : Event) (reply : Reply) (past : List Entry) → list_any (is_up_of x) (deeds payload s event reply past) ≡ false
+none-in-deeds : (x : Side) (payload : List ℕ) (s : ℕ) (event : Event) (reply : Reply) (past : List Entry) → list_any (raises x) (deeds payload s event reply past) ≡ false
 none-in-deeds x payload s (Write end at len) reply past = none-if x ((s == end.s) && is_up end.side s past) (Calls end.side (Writes (take len (drop at payload)))) refl
 none-in-deeds x payload s (Read end len) reply past = none-if x ((s == end.s) && is_up end.side s past) (Calls end.side (Reads len)) refl
 none-in-deeds x payload s (Finish end) reply past = none-if x ((s == end.s) && is_up end.side s past) (Calls end.side Finishes) refl
@@ -231,71 +258,29 @@ none-in-deeds x payload s (Complete slot dir) reply past = none-if x (passes (is
 none-in-deeds x payload s (Swallow slot dir) reply past = none-if x (passes (is_own dir s past) (completed_at reply)) (Completes dir) refl
 none-in-deeds x payload s _ reply past = refl
 
-in-ups : (x y : Side) (o : Option LinkId) → list_any (is_up_of x) (option_to_list (option_map (Up y) o)) ≡ (same_side x y && is_some o)
-in-ups A A None = refl
-in-ups A A (Some link) = refl
-in-ups A B None = refl
-in-ups A B (Some link) = refl
-in-ups B A None = refl
-in-ups B A (Some link) = refl
-in-ups B B None = refl
-in-ups B B (Some link) = refl
-
-ups-of : (x : Side) (s : ℕ) (e : Entry) (past : List Entry) → list_any (is_up_of x) (reverse (ups A s e past ++ ups B s e past)) ≡ is_some (comes_up_with x s e past)
-ups-of x s e past =
-    any-reverse (is_up_of x) (ups A s e past ++ ups B s e past)
-    ∙ (list_any-append (is_up_of x) (ups A s e past) (ups B s e past)
-    ∙ (ap (λ b. b || list_any (is_up_of x) (ups B s e past)) (in-ups x A (comes_up_with A s e past))
-    ∙ (ap (λ b. (same_side x A && is_some (comes_up_with A s e past)) || b) (in-ups x B (comes_up_with B s e past)) ∙ by-x x)))
-  where
-    or-none : (b : Bool) → (b || false) ≡ b
-    or-none true = refl
-    or-none false = refl
-
-    by-x : (y : Side) → ((same_side y A && is_some (comes_up_with A s e past)) || (same_side y B && is_some (comes_up_with B s e past))) ≡ is_some (comes_up_with y s e past)
-    by-x A = or-none (is_some (comes_up_with A s e past))
-    by-x B = refl
-
-up-with : (x : Side) (payload : List ℕ) (group s : ℕ) (e : Entry) (past : List Entry) → list_any (is_up_of x) (items payload group s e past) ≡ is_some (comes_up_with x s e past)
-up-with x payload group s e past =
+raised-items : (x : Side) (payload : List ℕ) (group s : ℕ) (e : Entry) (past : List Entry) → raised x (items payload group s e past) ≡ is_some (comes_up_with x s e past)
+raised-items x payload group s e past =
     let ds = deeds payload s e.event e.reply past in
     let us = reverse (ups A s e past ++ ups B s e past) in
     let gs = reverse (group_end A group e past ++ group_end B group e past) in
     let fs = reverse (fates A group e past ++ fates B group e past) in
-    list_any-append (is_up_of x) ((ds ++ us) ++ gs) fs
-    ∙ (ap (λ b. list_any (is_up_of x) ((ds ++ us) ++ gs) || b) turns
-    ∙ (or-none (list_any (is_up_of x) ((ds ++ us) ++ gs))
-    ∙ (list_any-append (is_up_of x) (ds ++ us) gs
-    ∙ (ap (λ b. list_any (is_up_of x) (ds ++ us) || b) ends
-    ∙ (or-none (list_any (is_up_of x) (ds ++ us))
-    ∙ (list_any-append (is_up_of x) ds us
-    ∙ (ap (λ b. b || list_any (is_up_of x) us) (none-in-deeds x payload s e.event e.reply past) ∙ ups-of x s e past)))))))
-  where
-    or-none : (b : Bool) → (b || false) ≡ b
-    or-none true = refl
-    or-none false = refl
-
-    ends : list_any (is_up_of x) (reverse (group_end A group e past ++ group_end B group e past)) ≡ false
-    ends =
-        any-reverse (is_up_of x) (group_end A group e past ++ group_end B group e past)
-        ∙ (list_any-append (is_up_of x) (group_end A group e past) (group_end B group e past)
-        ∙ (ap (λ b. b || list_any (is_up_of x) (group_end B group e past)) (none-in-end x (loses_group_with A group e past) A) ∙ none-in-end x (loses_group_with B group e past) B))
-
-    turns : list_any (is_up_of x) (reverse (fates A group e past ++ fates B group e past)) ≡ false
-    turns =
-        any-reverse (is_up_of x) (fates A group e past ++ fates B group e past)
-        ∙ (list_any-append (is_up_of x) (fates A group e past) (fates B group e past)
-        ∙ (ap (λ b. b || list_any (is_up_of x) (fates B group e past)) (none-in-fate x A group (table_of A past) (table_of A (e ∷ past))) ∙ none-in-fate x B group (table_of B past) (table_of B (e ∷ past))))
-
-up-in-part : (x : Side) (payload : List ℕ) (group s : ℕ) (past : List Entry) → list_any (is_up_of x) (part payload group s past) ≡ is_up x s past
-up-in-part x payload group s [] = refl
-up-in-part x payload group s (e ∷ older) =
-    list_any-append (is_up_of x) (items payload group s e older) (part payload group s older)
-    ∙ (ap (λ b. b || list_any (is_up_of x) (part payload group s older)) (up-with x payload group s e older) ∙ ap (λ b. is_some (comes_up_with x s e older) || b) (up-in-part x payload group s older))
+    list_any-append (raises x) ((ds ++ us) ++ gs) fs
+    ∙ (ap (λ b. raised x ((ds ++ us) ++ gs) || b) (raised-none x fs (fates-no-up group e past))
+    ∙ (or-none (raised x ((ds ++ us) ++ gs))
+    ∙ (list_any-append (raises x) (ds ++ us) gs
+    ∙ (ap (λ b. raised x (ds ++ us) || b) (ends-none x (loses_group_with A group e past) (loses_group_with B group e past))
+    ∙ (or-none (raised x (ds ++ us))
+    ∙ (list_any-append (raises x) ds us
+    ∙ (ap (λ b. b || raised x us) (none-in-deeds x payload s e.event e.reply past)
+    ∙ (raised-ups x (comes_up_with A s e past) (comes_up_with B s e past) ∙ of-side-is x s e past))))))))
 
 -- the end of the pipe is up where the end in the history is
 pub pipe-is-up : (t : Terms) (x : Side) (payload : List ℕ) (group s : ℕ) (past : List Entry) → (half x (pipe t (part payload group s past))).up ≡ is_up x s past
-pipe-is-up t x payload group s past = up-after t x (part payload group s past) ∙ up-in-part x payload group s past
+pipe-is-up t A payload group s [] = refl
+pipe-is-up t B payload group s [] = refl
+pipe-is-up t x payload group s (e ∷ past) =
+    news-up t x (items payload group s e past) (part payload group s past)
+    ∙ (ap (λ b. b || (half x (pipe t (part payload group s past))).up) (raised-items x payload group s e past) ∙ ap (λ b. is_some (comes_up_with x s e past) || b) (pipe-is-up t x payload group s past))
 
 -- an end that is not up posts nothing with an entry
 pub posts-where-up : (setup : Setup) (payload : List ℕ) (x : Side) (s : ℕ) (e : Entry) (past : List Entry) → is_up x s (e ∷ past) ≡ false → end_posts setup payload x s e past ≡ []
