@@ -1,6 +1,6 @@
 -- B takes a Proposal and accepts it, in first or in later contact: it is what its manager does with the message.
 use Rattle.pipe_model.specs.Keys.{keys_of}
-use Rattle.std.proofs.Common.{◌≡◌, ◌∙◌, ◌⊎◌, inl, inr, ℕ, ◌+◌, ◌<◌, ◌==◌, Bool, true, false, if◌then◌else◌, List, [], ◌∷◌, ◌++◌, length, map, filter_map, reverse, refl, ap, sym, subst}
+use Rattle.std.proofs.Common.{◌≡◌, ◌∙◌, ◌⊎◌, inl, inr, ℕ, ◌+◌, ◌<◌, ◌==◌, Bool, true, false, if◌then◌else◌, List, [], ◌∷◌, ◌++◌, length, map, filter_map, refl, ap, sym, subst}
 use Rattle.std.specs.Prelude.{Some, None, unwrap_or, slice_index_or}
 use Rattle.smc_num.specs.declared.Side.{Side}
 use Rattle.smc_num.specs.declared.Side.TheVariants.{A, B}
@@ -41,10 +41,9 @@ use Rattle.world_core.specs.Played.{IsOneLink, IsPlayed}
 use Rattle.world_core.specs.Agreement.{IsShaken}
 use Rattle.world_core.specs.Wired.{EachItem, keeps_open}
 use Rattle.world_core.specs.Managers.{manager_of, desk_of, records_of, HasLendings}
-use Rattle.world_core.proofs.EntryItems.{items-are}
+use Rattle.world_core.proofs.EntryItems.{items-are, below-ups}
 use Rattle.world_core.proofs.Offers.{IsFree, new-is-offer, first-link, later-link}
 use Rattle.world_core.proofs.QuietEvents.{by-side, entry-of}
-use Rattle.world_core.proofs.QuietEntries.{and-false}
 use Rattle.world_core.proofs.Moves.{link-moves, keeps-group}
 use Rattle.world_core.proofs.LinkMoves.{begins-link, still-accept}
 use Rattle.world_core.proofs.ClcMoves.{link-still}
@@ -55,6 +54,7 @@ use Rattle.world_core.proofs.TakenMessages.{end-is}
 use Rattle.world_core.proofs.LentRows.{free-place}
 use Rattle.world_core.proofs.TakenAlone.{IsTakenBy, taken-by, paths_of, waits_first, is-early}
 use Rattle.world_core.proofs.AcceptManagers.{Accepting, begins_contact, joins_group, accept_entry, accepts-own, accepts-theirs, accepts-lendings}
+use Rattle.world_core.proofs.Plain.{and-false}
 
 -- no fate in such an entry
 fates-none : {s : ℕ} {first : Bool} {from to : Stage} → Accepting s first from to → (y : Side) (g : ℕ) → filter_map (fate_of y g (peer y (fabric_at from)).table) (peer y (fabric_at to)).table ≡ []
@@ -111,13 +111,7 @@ module _ {s : ℕ} {first : Bool} {from to : Stage} (setup : Setup) (one : IsOne
   no-items : (a : ℕ) (g t : ℕ) → items payload g t (accept_entry a s o) past ≡ []
   no-items a g t =
       let e : Entry = accept_entry a s o in
-      items-are payload g t e past
-      ∙ (ap (λ (us : List Item). reverse (us ++ ups B t e past) ++ reverse (group_end A g e past ++ group_end B g e past) ++ reverse (fates A g e past ++ fates B g e past)) (no-ups a A t)
-      ∙ (ap (λ (us : List Item). reverse us ++ reverse (group_end A g e past ++ group_end B g e past) ++ reverse (fates A g e past ++ fates B g e past)) (no-ups a B t)
-      ∙ (ap (λ (us : List Item). reverse (us ++ group_end B g e past) ++ reverse (fates A g e past ++ fates B g e past)) (no-end a A g)
-      ∙ (ap (λ (us : List Item). reverse us ++ reverse (fates A g e past ++ fates B g e past)) (no-end a B g)
-      ∙ (ap (λ (us : List Item). reverse (us ++ fates B g e past)) (no-fates a A g)
-      ∙ ap (λ (us : List Item). reverse us) (no-fates a B g))))))
+      items-are payload g t e past ∙ below-ups g t e past [] (ap (λ (us : List Item). us ++ ups B t e past) (no-ups a A t) ∙ no-ups a B t) (λ y. no-end a y g) (λ y. no-fates a y g)
 
   -- what the manager makes of it
   rmb-next : (next_place (desk_of setup payload B past)).rmb ≡ 1

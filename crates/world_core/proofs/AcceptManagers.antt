@@ -1,9 +1,9 @@
 -- B accepts a Proposal: the lowest free element is lent to a new connection of the socket, in first contact in a new group, and the
 -- manager of A stays as it is.
-use Rattle.world_core.proofs.OpenEnds.{never-over}
+use Rattle.world_core.proofs.OpenEnds.{stays-out}
 use Rattle.std.specs.List.{cons_option}
 use Rattle.pipe_model.specs.Words.{rmbs_of, elements_of}
-use Rattle.std.proofs.Common.{◌≡◌, ◌∙◌, ℕ, ◌+◌, ◌-◌, ◌<◌, ◌==◌, ◌||◌, not, Bool, true, false, cond, if◌then◌else◌, List, [], ◌∷◌, ◌++◌, length, map, filter, refl, ap, sym, subst, eq-eqb, eqb-true, arith, suc}
+use Rattle.std.proofs.Common.{◌≡◌, ◌∙◌, ℕ, ◌+◌, ◌-◌, ◌<◌, ◌==◌, not, Bool, true, false, cond, if◌then◌else◌, List, [], ◌∷◌, ◌++◌, length, map, filter, refl, ap, sym, subst, eq-eqb, eqb-true}
 use Rattle.std.specs.Prelude.{Option, Some, None, option_map, unwrap_or, slice_set}
 use Rattle.std.specs.Option.{option_or}
 use Rattle.smc_num.specs.declared.Side.{Side}
@@ -11,7 +11,7 @@ use Rattle.smc_num.specs.declared.Side.TheVariants.{A, B}
 use Rattle.smc_num.specs.declared.LinkId.{LinkId}
 use Rattle.smc_num.specs.Names.{up_to, head, no_link}
 use Rattle.smc_num.specs.Links.{live_links, Known}
-use Rattle.smc_num.specs.Places.{rmb_at, same_place, all_places, is_free}
+use Rattle.smc_num.specs.Places.{rmb_at, all_places, is_free}
 use Rattle.rmb_region.specs.Regions.{Buffer}
 use Rattle.clc_wire.specs.declared.offer.Offer.{Offer}
 use Rattle.clc_wire.specs.declared.message.ClcMessage.TheVariants.{Accept as AcceptMessage}
@@ -24,9 +24,9 @@ use Rattle.pipe_model.specs.declared.post.Post.TheVariants.{Clc as ClcPost}
 use Rattle.pipe_model.specs.declared.entry.Entry.{Entry}
 use Rattle.pipe_model.specs.History.{Offered, offered, offered_if}
 use Rattle.pipe_model.specs.Fabric.{Fabric, peer, table_of, loses_group_with}
-use Rattle.pipe_model.specs.Ends.{Half, fresh, is_over}
+use Rattle.pipe_model.specs.Ends.{Half, fresh}
 use Rattle.pipe_model.specs.Pipe.{Item, half, pipe}
-use Rattle.pipe_model.specs.Connections.{WaitsConfirm, IsUp, is_up, early_state, end_state, named_link, group_on, items, part, after_loss}
+use Rattle.pipe_model.specs.Connections.{WaitsConfirm, IsUp, is_up, early_state, end_state, group_on, items, part, after_loss}
 use Rattle.pipe_model.specs.Lending.{Lending, lendings, lends_by, lent, lent_places, returns, free_places, pipe_of, terms_of, leaves_handshake}
 use Rattle.pipe_model.specs.Fallback.{is_raw}
 use Rattle.pipe_model.specs.Messages.{pair_on, serial, pair_number, new_pair}
@@ -40,13 +40,15 @@ use Rattle.world_core.specs.OneLink.{the_link, Stage, NoLink, Begun, LiveAtBoth,
 use Rattle.world_core.specs.Wired.{EachItem, keeps_open}
 use Rattle.world_core.specs.Managers.{manager_of, desk_of, hand_of, conn_of, end_of, route_of, rows_of, first_on, each_socket, lending_on, heard_on, awaits_confirm, keeps_element, epoch_in, lending_due, HasLendings}
 use Rattle.world_core.proofs.QuietEvents.{by-side, entry-of}
-use Rattle.world_core.proofs.QuietEntries.{all-stay, and-false}
-use Rattle.world_core.proofs.StartedRows.{rows-change, epoch-stays, not-of-free, spare-less, next-is, epoch-here, free-of, eqb-sym}
-use Rattle.world_core.proofs.SameManagers.{desk_from, rows_from, conn_from, route_from, same-conn, same-spare}
+use Rattle.world_core.proofs.QuietEntries.{all-stay}
+use Rattle.world_core.proofs.StartedRows.{rows-change, spare-less, next-is, epoch-here, eqb-sym, conn-beside}
+use Rattle.world_core.proofs.SameManagers.{desk_from, rows_from, same-conn, same-spare, hand-same}
 use Rattle.world_core.proofs.LinkManagers.{stage-desk}
 use Rattle.world_core.proofs.KeptManagers.{by-parts}
-use Rattle.world_core.proofs.Lendings.{no-lending-due, lending-due}
+use Rattle.world_core.proofs.Lendings.{no-lending-due, lending-due, due-same}
 use Rattle.world_core.proofs.Tables.{same-sockets, set-socket, at-socket}
+use Rattle.world_core.proofs.Plain.{and-false, plus-none}
+use Rattle.std.proofs.Math.Numerals.{add-one}
 
 -- how far an Accept leads the link
 pub data Accepting : ℕ → Bool → Stage → Stage → Type 0 where
@@ -97,10 +99,7 @@ module _ {s : ℕ} {first : Bool} {from to : Stage} (setup : Setup) (payload : L
   stays = by-side (λ y. (t : ℕ) → leaves_handshake y t (Clc s A) (Sent AcceptSent) ≡ false) (λ t. refl) (λ t. and-false (t == s))
 
   returns-none : (y : Side) (k : Lending) → returns setup payload y e past k ≡ false
-  returns-none y k =
-      ap (λ b. b || (loses_group_with y k.group e past || is_over (half y (pipe_of setup payload k.group k.s (e ∷ past))))) (stays y k.s)
-      ∙ (ap (λ b. b || is_over (half y (pipe_of setup payload k.group k.s (e ∷ past)))) (no_loss y k.group)
-      ∙ never-over (terms_of setup) y (part payload k.group k.s (e ∷ past)) (open_items k.group k.s))
+  returns-none y k = stays-out setup payload e past y k (stays y k.s) (no_loss y k.group) (open_items k.group k.s)
 
   lent-b : lent setup payload B (e ∷ past) ≡ l ∷ lent setup payload B past
   lent-b = ap (λ (ls : List Lending). l ∷ ls) (all-stay (λ k. not (returns setup payload B e past k)) (lent setup payload B past) (λ k. ap (λ b. not b) (returns-none B k)))
@@ -122,9 +121,6 @@ module _ {s : ℕ} {first : Bool} {from to : Stage} (setup : Setup) (payload : L
   serial-b : serial B (e ∷ past) ≡ (if first then serial B past + 1 else serial B past)
   serial-b = ap (λ n. serial B past + (if n == 0 then 0 else 1)) pair-b ∙ by first
     where
-      plus-none : (n : ℕ) → n + 0 ≡ n
-      plus-none n = omega arith
-
       by : (b : Bool) → serial B past + (if (if b then 1 else 0) == 0 then 0 else 1) ≡ (if b then serial B past + 1 else serial B past)
       by true = refl
       by false = plus-none (serial B past)
@@ -172,9 +168,6 @@ module _ {s : ℕ} {first : Bool} {from to : Stage} (setup : Setup) (payload : L
       ∙ (ap (λ (ls : List Lending). desk_from setup A (fabric_at to) (groups_at to) (map (λ k. pair_on A k past) (up_to most_slots)) (serial A past) (keys_at A to) (book_at A to) (rows_from setup A (lendings A past) ls) (first_on A past)) lent-a
       ∙ (desk-theirs-stays c setup (map (λ k. pair_on A k past) (up_to most_slots)) (serial A past) (rows_of setup payload A past) (first_on A past)
       ∙ sym (stage-desk setup payload A from past was))))
-    where
-      plus-none : (n : ℕ) → n + 0 ≡ n
-      plus-none n = omega arith
 
   -- the handshakes
   early-b : (t : ℕ) → early_state B t (e ∷ past) ≡ (if t == s then WaitsConfirm else early_state B t past)
@@ -191,9 +184,6 @@ module _ {s : ℕ} {first : Bool} {from to : Stage} (setup : Setup) (payload : L
 
   state-here : end_state B s (e ∷ past) ≡ WaitsConfirm
   state-here = ap (λ b. if b then IsUp else early_state B s (e ∷ past)) down ∙ (early-b s ∙ ap (λ b. if b then WaitsConfirm else early_state B s past) (eq-eqb s s refl))
-
-  hand-by : (y : Side) (t : ℕ) → end_state y t (e ∷ past) ≡ end_state y t past → hand_of y (e ∷ past) t ≡ hand_of y past t
-  hand-by y t same = ap (λ a. let h : Hand = record { raw = is_raw t past; state = a } in h) same
 
   hand-here : hand_of B (e ∷ past) s ≡ record (hand_at s here) { state = WaitsConfirm }
   hand-here =
@@ -246,21 +236,12 @@ module _ {s : ℕ} {first : Bool} {from to : Stage} (setup : Setup) (payload : L
 
   conn-else : (t : ℕ) → (t == s) ≡ false → conn_of setup payload B (e ∷ past) t ≡ conn_of setup payload B past t
   conn-else t d =
-      ap (λ q. conn_from t q (is_up B t past) (l ∷ lendings B past) (heard_on B t (e ∷ past)) (end_of setup payload B t (e ∷ past)) (lent setup payload B (e ∷ past))) (ap (λ q. option_map (λ (p : Offered). p.link) q) (offer-else t d))
-      ∙ (ap (λ q. conn_from t (named_link t past) (is_up B t past) (l ∷ lendings B past) q (end_of setup payload B t (e ∷ past)) (lent setup payload B (e ∷ past))) (ap (λ st. if awaits_confirm st then None else option_map (λ (p : Offered). p.offer) (offered A t past)) (state-else t d))
-      ∙ (ap (λ h. conn_from t (named_link t past) (is_up B t past) (l ∷ lendings B past) (heard_on B t past) h (lent setup payload B (e ∷ past))) (end-else B t (group-else t d))
-      ∙ (ap (λ q. option_map (λ k. let c : Connection Half = record { route = route_from (named_link t past) (is_up B t past) (l ∷ lendings B past) (heard_on B t past) k; end = end_of setup payload B t past } in c) q) (lending-else t d)
-      ∙ by (lending_on t (lent setup payload B past)) refl)))
-    where
-      by : (q : Option Lending) → lending_on t (lent setup payload B past) ≡ q
-          → option_map (λ k. let c : Connection Half = record { route = route_from (named_link t past) (is_up B t past) (l ∷ lendings B past) (heard_on B t past) k; end = end_of setup payload B t past } in c) q
-          ≡ option_map (λ k. let c : Connection Half = record { route = route_from (named_link t past) (is_up B t past) (lendings B past) (heard_on B t past) k; end = end_of setup payload B t past } in c) q
-      by None i = refl
-      by (Some m) i =
-          let f : is_free (lent_places (lent setup payload B past)) (offered_place o) ≡ true = free-of setup payload B past one (offered_place o) free in
-          let apart : same_place m.place (offered_place o) ≡ false = not-of-free t (offered_place o) (lent setup payload B past) m f i in
-          ap (λ n. Some (record { route = record { link = unwrap_or (named_link t past) no_link; up = is_up B t past; element = record { rmb = m.place.rmb; index = m.place.index; epoch = n }; token = m.token; peer = heard_on B t past }; end = end_of setup payload B t past }))
-          (epoch-stays l (lendings B past) (lent setup payload B past) m apart)
+      conn-beside setup payload B e past l one free refl t
+      (record {
+        up = refl;
+        link = ap (λ q. option_map (λ (p : Offered). p.link) q) (offer-else t d);
+        heard = ap (λ st. if awaits_confirm st then None else option_map (λ (p : Offered). p.offer) (offered A t past)) (state-else t d);
+      }) (end-else B t (group-else t d)) (lending-else t d)
 
   conn-a : (t : ℕ) → conn_of setup payload A (e ∷ past) t ≡ conn_of setup payload A past t
   conn-a t = by (t == s) refl
@@ -284,10 +265,7 @@ module _ {s : ℕ} {first : Bool} {from to : Stage} (setup : Setup) (payload : L
   spare-b = ap (λ (ls : List Lending). length (filter (is_free (lent_places ls)) (all_places (rmbs_of setup B) (elements_of setup B)))) lent-b ∙ spare-less setup payload B past one (offered_place o) free
 
   tokens-b : length (lendings B (e ∷ past)) ≡ length (lendings B past) + 1
-  tokens-b = plus (length (lendings B past))
-    where
-      plus : (n : ℕ) → suc n ≡ n + 1
-      plus n = omega arith
+  tokens-b = sym (add-one (length (lendings B past)))
 
   -- B's manager
   pub accepts-own : manager_of setup payload regions B (e ∷ past) ≡ with_hand s (record (hand_at s here) { state = WaitsConfirm }) (starts s the_link (record here { desk = desk1 }))
@@ -297,29 +275,24 @@ module _ {s : ℕ} {first : Bool} {from to : Stage} (setup : Setup) (payload : L
       (slice_set (each_socket (conn_of setup payload B past) setup.sockets) s (Some (record { route = new_route the_link (next_element desk1) (length (lendings B past) + 1); end = record (fresh setup.number) { live = live_links desk1.links.known } })))
       (length (lendings B past) + 1) (length (free_places setup payload B past) - 1)
       desk-b
-      (sym (set-socket (hand_of B past) (hand_of B (e ∷ past)) setup.sockets s (λ t d. hand-by B t (state-else t d))) ∙ ap (λ h. slice_set (each_socket (hand_of B past) setup.sockets) s h) hand-here)
+      (sym (set-socket (hand_of B past) (hand_of B (e ∷ past)) setup.sockets s (λ t d. hand-same B (e ∷ past) past t refl (state-else t d))) ∙ ap (λ h. slice_set (each_socket (hand_of B past) setup.sockets) s h) hand-here)
       (sym (set-socket (conn_of setup payload B past) (conn_of setup payload B (e ∷ past)) setup.sockets s conn-else) ∙ ap (λ (k : Option (Connection Half)). slice_set (each_socket (conn_of setup payload B past) setup.sockets) s k) conn-here)
       tokens-b spare-b
 
   pub accepts-theirs : manager_of setup payload regions A (e ∷ past) ≡ manager_of setup payload regions A past
   accepts-theirs =
       by-parts setup payload regions A (e ∷ past) (desk_of setup payload A past) (each_socket (hand_of A past) setup.sockets) (each_socket (conn_of setup payload A past) setup.sockets) (length (lendings A past)) (length (free_places setup payload A past))
-      desk-a (same-sockets (hand_of A (e ∷ past)) (hand_of A past) (λ t. hand-by A t (state-a t)) setup.sockets) (same-sockets (conn_of setup payload A (e ∷ past)) (conn_of setup payload A past) conn-a setup.sockets)
+      desk-a (same-sockets (hand_of A (e ∷ past)) (hand_of A past) (λ t. hand-same A (e ∷ past) past t refl (state-a t)) setup.sockets) (same-sockets (conn_of setup payload A (e ∷ past)) (conn_of setup payload A past) conn-a setup.sockets)
       refl (same-spare setup payload A (e ∷ past) past lent-a)
-
-  due-by : (y : Side) (t : ℕ) → end_state y t (e ∷ past) ≡ end_state y t past → offered y t (e ∷ past) ≡ offered y t past → lending_due y t (e ∷ past) ≡ lending_due y t past
-  due-by y t st of =
-      ap (λ st. if keeps_element st then option_map (λ (o : Offered). lends_by t o.link o.offer) (offered y t (e ∷ past)) else None) st
-      ∙ ap (λ q. if keeps_element (end_state y t past) then option_map (λ (o : Offered). lends_by t o.link o.offer) q else None) of
 
   -- each socket has its lending
   pub accepts-lendings : HasLendings setup payload (e ∷ past)
   accepts-lendings = record { each = by-side (λ y. (t : ℕ) → lending_on t (lent setup payload y (e ∷ past)) ≡ lending_due y t (e ∷ past)) of_a (λ t. of_b t (t == s) refl) }
     where
       of_a : (t : ℕ) → lending_on t (lent setup payload A (e ∷ past)) ≡ lending_due A t (e ∷ past)
-      of_a t = ap (λ (ls : List Lending). lending_on t ls) lent-a ∙ (lendings_are.each A t ∙ sym (due-by A t (state-a t) refl))
+      of_a t = ap (λ (ls : List Lending). lending_on t ls) lent-a ∙ (lendings_are.each A t ∙ sym (due-same A t (e ∷ past) past (state-a t) refl))
 
       of_b : (t : ℕ) (b : Bool) → (t == s) ≡ b → lending_on t (lent setup payload B (e ∷ past)) ≡ lending_due B t (e ∷ past)
       of_b t true i = subst (λ k. lending_on k (lent setup payload B (e ∷ past)) ≡ lending_due B k (e ∷ past)) (sym (eqb-true t s i))
           (lending-here ∙ sym (lending-due B s (e ∷ past) (record { link = the_link; offer = o }) offer-b (ap (λ st. keeps_element st) state-here)))
-      of_b t false d = lending-else t d ∙ (lendings_are.each B t ∙ sym (due-by B t (state-else t d) (offer-else t d)))
+      of_b t false d = lending-else t d ∙ (lendings_are.each B t ∙ sym (due-same B t (e ∷ past) past (state-else t d) (offer-else t d)))

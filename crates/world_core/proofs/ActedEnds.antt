@@ -26,18 +26,14 @@ use Rattle.world_core.proofs.KeptManagers.{conn-at, manager-kept, end-changed, e
 use Rattle.world_core.proofs.QuietEntries.{IsCalm, shows-bare, desk-stays, socket-stays, end-now, bare-items}
 use Rattle.world_core.proofs.KeyedEnds.{KnowsEnds, up-facts}
 use Rattle.world_core.proofs.DuePosts.{only-pipes, end-due}
+use Rattle.std.proofs.Math.Seq.{drop-length}
 
 -- the entry as the pipes see it
 abbrev pub as_seen : Entry → Entry
 as_seen e = record { actor = 0; event = e.event; reply = e.reply; posts = [] }
 
--- nothing new was sent
-nothing-since : (ms : List Sent) → drop (length ms) ms ≡ []
-nothing-since [] = refl
-nothing-since (m ∷ ms) = nothing-since ms
-
 none-since : (before now : Half) → now.sent ≡ before.sent → sent_since before now ≡ []
-none-since before now e = ap (λ (ms : List Sent). drop (length before.sent) ms) e ∙ nothing-since before.sent
+none-since before now e = ap (λ (ms : List Sent). drop (length before.sent) ms) e ∙ drop-length before.sent
 
 module _ (setup : Setup) (payload : List ℕ) (regions : List Buffer) (stage : Stage) (e : Entry) (past : List Entry) (calm : IsCalm setup payload stage e past) (knows : KnowsEnds setup payload past) where
   -- the pipe of a socket before the entry

@@ -1,6 +1,6 @@
 -- Wires and pipes agree in every played history.
 use Rattle.std.proofs.Common.{◌≡◌, ◌∙◌, ◌==◌, ℕ, ◌-◌, Bool, true, false, List, [], ◌∷◌, take, drop, map, refl, ap, sym, subst, ◌||◌, true≢false, eqb-true, suc, zero}
-use Rattle.std.specs.Prelude.{Option, Some, None, is_some, unwrap_or}
+use Rattle.std.specs.Prelude.{Option, Some, None, is_some}
 use Rattle.smc_num.specs.declared.Side.{Side}
 use Rattle.smc_num.specs.Names.{other}
 use Rattle.pipe_model.specs.declared.setup.Setup.{Setup}
@@ -20,23 +20,21 @@ use Rattle.world_core.proofs.Idle.{idle}
 use Rattle.world_core.proofs.Parts.{part-open, up-offered, comes-not-up}
 use Rattle.world_core.proofs.UpEnds.{pipe-is-up}
 use Rattle.world_core.proofs.Agreed.{strange-step, carried-step, can-step}
+use Rattle.world_core.proofs.Plain.{some-is}
 
-nothing-left : (n : ℕ) (ms : List Sent) → ms ≡ [] → drop n ms ≡ []
+pub nothing-left : (n : ℕ) (ms : List Sent) → ms ≡ [] → drop n ms ≡ []
 nothing-left zero ms e = ap (λ ns. drop 0 ns) e
 nothing-left (suc n) ms e = ap (λ ns. drop (suc n) ns) e
 
-nothing-taken : (n : ℕ) (ms : List Sent) → ms ≡ [] → take n ms ≡ []
+pub nothing-taken : (n : ℕ) (ms : List Sent) → ms ≡ [] → take n ms ≡ []
 nothing-taken zero ms e = ap (λ ns. take 0 ns) e
 nothing-taken (suc n) ms e = ap (λ ns. take (suc n) ns) e
 
-lands-nothing : (h : Half) → h.sent ≡ [] → to_land h ≡ []
+pub lands-nothing : (h : Half) → h.sent ≡ [] → to_land h ≡ []
 lands-nothing h e = nothing-left h.landed h.sent e
 
-returns-nothing : (h : Half) → h.sent ≡ [] → returning h ≡ []
+pub returns-nothing : (h : Half) → h.sent ≡ [] → returning h ≡ []
 returns-nothing h e = nothing-taken (h.landed - h.completed) (to_complete h) (nothing-left h.completed h.sent e)
-
-same-offer : (o r : Offered) → Some o ≡ Some r → o ≡ r
-same-offer o r e = ap (λ q. unwrap_or q o) e
 
 -- a token that no offer gave after an entry was given by none before it
 pub else-before : (y : Side) (t : ℕ) (e : Entry) (past : List Entry) → GoesOn e past → (token : ℕ) → IsElse token (offered y t (e ∷ past)) → IsElse token (offered y t past)
@@ -80,7 +78,7 @@ module _ (setup : Setup) (payload : List ℕ) where
     carried-on : (x : Side) (s : ℕ) (o : Offered) → offered (other x) s (e ∷ past) ≡ Some o → (q : Option Offered) → offered (other x) s past ≡ q → IsCarried (element_size setup) the_link x o.offer.token (e ∷ past) (half x (pipe_of setup payload 1 s (e ∷ past)))
     carried-on x s o f None h = new-carried x s o f h
     carried-on x s o f (Some r) h =
-        subst (λ (p : Offered). IsCarried (element_size setup) the_link x p.offer.token (e ∷ past) (half x (pipe_of setup payload 1 s (e ∷ past)))) (same-offer r o (sym (go.kept (other x) s r h) ∙ f))
+        subst (λ (p : Offered). IsCarried (element_size setup) the_link x p.offer.token (e ∷ past) (half x (pipe_of setup payload 1 s (e ∷ past)))) (some-is r o (sym (go.kept (other x) s r h) ∙ f))
         (carried-step setup payload e past before n made played offers only go shaken agree x s r h)
 
     agree-step : Agree setup payload (e ∷ past)

@@ -42,6 +42,7 @@ use Rattle.world_core.proofs.TakenMessages.{end-is}
 use Rattle.world_core.proofs.Landings.{lands-made, lands-unmade, acts-none, first-llc, no-llc-first}
 use Rattle.world_core.proofs.Confirmations.{request, answer, act-a, act-b}
 use Rattle.world_core.proofs.NewOffers.{NoOffers, OneOffer, asked-offers}
+use Rattle.world_core.proofs.Plain.{same-is, twice}
 
 -- that a post comes from a side, and is about a known socket where it is a CLC message
 abbrev pub IsFrom : ℕ → Side → Post → Type 0
@@ -99,16 +100,6 @@ ready-at : (k : Socket) (y : Side) → awaits_confirm (end_at k y) ≡ true → 
 ready-at k B e = refl
 ready-at (FirstAccepted o) A e = cc
 ready-at _ A e = cc
-
-same-is : (x y : Side) → same_side x y ≡ true → x ≡ y
-same-is A A e = refl
-same-is B B e = refl
-same-is A B e = absurd (true≢false (sym e))
-same-is B A e = absurd (true≢false (sym e))
-
-twice : (x : Side) → x ≡ other (other x)
-twice A = refl
-twice B = refl
 
 abbrev taker : Event → Side
 taker (ClcEvent s dir) = other dir

@@ -12,18 +12,19 @@ use Rattle.pipe_model.specs.declared.entry.Entry.{Entry}
 use Rattle.pipe_model.specs.Lending.{Lending, lendings, is_done_with}
 use Rattle.pipe_model.specs.Keys.{Keys, no_keys, keys_of, Binding, binding_in, last_binding, owing, IsRebound, AreBound}
 use Rattle.world_core.specs.Played.{IsOneLink, IsPlayed}
-use Rattle.world_core.specs.OneLink.{Stage, NoLink, Begun, Made, Asking, LiveAtA, LiveAtBoth, keys_at, the_key, the_keys}
+use Rattle.world_core.specs.OneLink.{Stage, NoLink, Begun, Made, Asking, LiveAtA, LiveAtBoth, keys_at, the_key, the_keys, fabric_at}
 use Rattle.world_core.proofs.PlayedWorlds.{played}
+use Rattle.pipe_model.specs.Fabric.{peer}
 
--- a side has no key, or the one
-pub keys-are : (x : Side) (stage : Stage) → (keys_at x stage ≡ no_keys) ⊎ (keys_at x stage ≡ the_keys x)
-keys-are A NoLink = inl refl
-keys-are A (Begun s) = inl refl
+-- a side has no group and no key, or the one key
+pub keys-are : (x : Side) (stage : Stage) → (((peer x (fabric_at stage)).group ≡ 0) × (keys_at x stage ≡ no_keys)) ⊎ (keys_at x stage ≡ the_keys x)
+keys-are A NoLink = inl (refl, refl)
+keys-are A (Begun s) = inl (refl, refl)
 keys-are A (Made s) = inr refl
 keys-are A (Asking s qp) = inr refl
 keys-are A (LiveAtA s qp) = inr refl
 keys-are A (LiveAtBoth s) = inr refl
-keys-are B NoLink = inl refl
+keys-are B NoLink = inl (refl, refl)
 keys-are B (Begun s) = inr refl
 keys-are B (Made s) = inr refl
 keys-are B (Asking s qp) = inr refl
@@ -52,8 +53,8 @@ either None b c e = inr e
 either (Some d) b c e = inl e
 
 module _ (setup : Setup) (one : IsOneLink setup) (payload : List ℕ) where
-  now-at : (past : List Entry) (x : Side) (stage : Stage) → keys_of x past ≡ keys_at x stage → (keys_at x stage ≡ no_keys) ⊎ (keys_at x stage ≡ the_keys x) → (keys_of x past ≡ no_keys) ⊎ (keys_of x past ≡ the_keys x)
-  now-at past x stage e (inl f) = inl (e ∙ f)
+  now-at : (past : List Entry) (x : Side) (stage : Stage) → keys_of x past ≡ keys_at x stage → (((peer x (fabric_at stage)).group ≡ 0) × (keys_at x stage ≡ no_keys)) ⊎ (keys_at x stage ≡ the_keys x) → (keys_of x past ≡ no_keys) ⊎ (keys_of x past ≡ the_keys x)
+  now-at past x stage e (inl f) = inl (e ∙ f.1)
   now-at past x stage e (inr f) = inr (e ∙ f)
 
   pub now-bound : (past : List Entry) (n : ℕ) → IsPlayed setup payload past n → (x : Side) → (keys_of x past ≡ no_keys) ⊎ (keys_of x past ≡ the_keys x)

@@ -88,33 +88,15 @@ is-end setup one payload past n p x s =
 -- what is seen of an end says what it is
 pub seen-absent : (st : EndState) → seen_state st ≡ Absent → st ≡ NoEnd
 seen-absent NoEnd e = refl
-seen-absent WaitsProposal e = cc
-seen-absent WaitsAnswer e = cc
-seen-absent WaitsConfirm e = cc
-seen-absent WaitsLink e = cc
-seen-absent IsUp e = cc
-seen-absent HasFallen e = cc
-seen-absent (WasReset cause) e = cc
+seen-absent _ e = cc
 
 pub seen-up : (st : EndState) → seen_state st ≡ Up → st ≡ IsUp
-seen-up NoEnd e = cc
-seen-up WaitsProposal e = cc
-seen-up WaitsAnswer e = cc
-seen-up WaitsConfirm e = cc
-seen-up WaitsLink e = cc
 seen-up IsUp e = refl
-seen-up HasFallen e = cc
-seen-up (WasReset cause) e = cc
+seen-up _ e = cc
 
 pub seen-fallen : (st : EndState) → seen_state st ≡ FellBack → st ≡ HasFallen
-seen-fallen NoEnd e = cc
-seen-fallen WaitsProposal e = cc
-seen-fallen WaitsAnswer e = cc
-seen-fallen WaitsConfirm e = cc
-seen-fallen WaitsLink e = cc
-seen-fallen IsUp e = cc
 seen-fallen HasFallen e = refl
-seen-fallen (WasReset cause) e = cc
+seen-fallen _ e = cc
 
 pub absent-or : (st : EndState) → (seen_state st ≡ Absent) ⊎ (seen_state st ≡ Absent → ⊥)
 absent-or NoEnd = inl refl

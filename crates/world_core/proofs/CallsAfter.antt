@@ -33,8 +33,8 @@ use Rattle.world_core.specs.Calling.{MayCall, IsCalledAt}
 use Rattle.world_core.proofs.HostsAfter.{if-none, unposted, stands-on, played-now, may-after, room-after, streams-after, sent-after, kept-after, hosts-after}
 use Rattle.world_core.proofs.CallEntries.{IsCalled, IsNothing}
 use Rattle.world_core.proofs.SoundEnds.{sound-at}
-use Rattle.world_core.proofs.MovedWires.{twice}
 use Rattle.world_core.proofs.StreamsAfter.{Flowing, their-flows}
+use Rattle.world_core.proofs.Plain.{twice}
 
 -- what is asked of such an event: nothing lands with it, and no wire moves
 pub record IsCall (event : Event) : Type 0 where

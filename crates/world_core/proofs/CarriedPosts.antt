@@ -3,7 +3,6 @@ use Rattle.std.proofs.Common.{◌≡◌, ◌∙◌, ◌==◌, ℕ, ◌+◌, ◌�
 use Rattle.std.specs.Prelude.{Option, Some, None, option_map, unwrap_or, cond}
 use Rattle.std.specs.List.{cons_option}
 use Rattle.smc_num.specs.declared.Side.{Side}
-use Rattle.smc_num.specs.declared.Side.TheVariants.{A, B}
 use Rattle.smc_num.specs.declared.LinkId.{LinkId}
 use Rattle.smc_num.specs.Names.{same_side, same_link}
 use Rattle.cdc_wire.specs.declared.CdcMessage.{CdcMessage}
@@ -25,24 +24,17 @@ use Rattle.world_core.specs.Hosts.{plain_under, plains}
 use Rattle.world_core.specs.Sending.{carried_from, plain_of, goes_on_wire, no_snapshot}
 use Rattle.world_core.proofs.Carrying.{same-link as link-self}
 use Rattle.world_core.proofs.PostsFrom.{IsSentBy, EndsWithCdc}
-
-same-self : (x : Side) → same_side x x ≡ true
-same-self A = refl
-same-self B = refl
+use Rattle.world_core.proofs.Plain.{and-false, and-right, same-self}
 
 -- a post of the side goes where it is on the link
 on-wire : (x from : Side) (l : LinkId) → (from ≡ x) × (l ≡ the_link) → (same_side x from && same_link the_link l) ≡ true
 on-wire x from l f = ap (λ y. same_side x y && same_link the_link l) f.0 ∙ (ap (λ b. b && same_link the_link l) (same-self x) ∙ (ap (λ k. same_link the_link k) f.1 ∙ link-self the_link))
 
-off-wire : (b : Bool) → (b && false) ≡ false
-off-wire true = refl
-off-wire false = refl
-
 goes-on : (sockets : ℕ) (x : Side) (post : Post) → IsSentBy sockets x post → goes_on_wire post ≡ is_on the_link x post
 goes-on sockets x (Write from l key address len) f = sym (on-wire x from l f)
 goes-on sockets x (Cdc from l m) f = sym (on-wire x from l f)
 goes-on sockets x (Llc from l m) f = sym (on-wire x from l f)
-goes-on sockets x (Clc from s l m) f = sym (off-wire (same_side x from))
+goes-on sockets x (Clc from s l m) f = sym (and-false (same_side x from))
 
 module _ (m : Manager Half) (entry : ℕ) where
   abbrev made_of : ℕ → Post → Carried
@@ -75,10 +67,6 @@ module _ (m : Manager Half) (entry : ℕ) where
   -- what the end told last whose messages carry a token
   abbrev pub told_by : ℕ → Snapshot
   told_by token = unwrap_or (option_map (λ s. (half_at s m.records).last) (aimer token m.records)) no_snapshot
-
-  and-right : (a b : Bool) → (a && b) ≡ true → b ≡ true
-  and-right true b e = e
-  and-right false b e = absurd (true≢false (sym e))
 
   meant : (token : ℕ) (k : CdcMessage) (a b : Bool) → (a && (token == k.token)) ≡ b → option_map (λ j. told_by k.token) (if_meant b k) ≡ option_map (λ j. told_by token) (if_meant b k)
   meant token k a true e = ap (λ t. Some (told_by t)) (sym (eqb-true token k.token (and-right a (token == k.token) e)))

@@ -32,7 +32,7 @@ use Rattle.world_core.proofs.PlayedWorlds.{played}
 use Rattle.world_core.proofs.Records.{all-offers}
 
 -- how many queue pairs a side has made, and their numbers
-serial-most : (x : Side) (past : List Entry) → serial x past ≤ length past
+pub serial-most : (x : Side) (past : List Entry) → serial x past ≤ length past
 serial-most x [] = omega arith
 serial-most x (e ∷ past) = by (new_pair x e past == 0) (serial-most x past)
   where

@@ -1,5 +1,5 @@
 -- What an entry that takes a CLC message makes of the link and of each socket, by its reply and its posts.
-use Rattle.std.proofs.Common.{◌≡◌, ap, arith, inr, refl, subst, sym, ◌∙◌}
+use Rattle.std.proofs.Common.{◌≡◌, ap, inr, refl, subst, sym, ◌∙◌}
 use Rattle.std.proofs.lemmas.Bool.{eqb-true}
 use Rattle.std.proofs.lemmas.List.{append-nil}
 use Rattle.pipe_model.specs.Keys.{by_post as keys_by_post, Keys, book_act, book_clc, by_act, if_group}
@@ -35,6 +35,7 @@ use Rattle.world_core.proofs.QuietEvents.{by-side, entry-of, none-leaves}
 use Rattle.world_core.specs.Sockets.{suits, HasSocket, IsWorld, Socket, StandsAt, early_at, has_not_lent, offered_at, untaken_at, up_at}
 use Rattle.std.specs.Prelude.{Bool, List, None, Option, Some, [], drop, false, filter, filter_map, fold, if◌then◌else◌, is_some, length, true, ℕ, ◌&&◌, ◌++◌, ◌+◌, ◌==◌, ◌||◌, ◌∷◌}
 use Rattle.pipe_model.specs.Wires.{if_latest, unlanded}
+use Rattle.world_core.proofs.Plain.{plus-none}
 
 -- the posts of an entry, where they are of one socket, show nothing to another
 pub record AreApart (s : ℕ) (posts : List Post) : Type 0 where
@@ -100,9 +101,6 @@ pub record AreStill (t : ℕ) (dir : Side) (reply : Reply) (older : List Entry) 
   pub keys : (x : Side) (table : List Known) (ks : Keys) → fold (keys_by_post x table) ks posts ≡ ks
   pub book : (x : Side) (b : List Key) → book_clc x (ClcEvent t dir) reply older b ≡ b
   pub waiting : (link : LinkId) (x : Side) (n : ℕ) → posted_llc link x n 1 posts ≡ []
-
-pub plus-none : (n : ℕ) → n + 0 ≡ n
-plus-none n = omega arith
 
 pub link-still : (setup : Setup) (actor t : ℕ) (dir : Side) (reply : Reply) (posts : List Post) (older : List Entry) (stage : Stage) → IsAtStage setup stage older
     → AreStill t dir reply older (fabric_at stage) posts → MovesLink setup (entry-of actor (ClcEvent t dir) reply posts) older stage stage

@@ -49,6 +49,7 @@ use Rattle.world_core.proofs.AskedPosts.{IsLlc, of-act}
 use Rattle.world_core.proofs.DataPosts.{connections-data}
 use Rattle.world_core.proofs.PlayedWorlds.{played}
 use Rattle.world_core.proofs.TakenMessages.{end-is}
+use Rattle.world_core.proofs.Plain.{and-both, same-is}
 
 -- that a post is no CLC message
 abbrev pub NoClc : Post → Type 0
@@ -388,17 +389,6 @@ pub data News (setup : Setup) (payload : List ℕ) (e : Entry) (past : List Entr
   NoNews : filter_map (clc_in x s) e.posts ≡ [] → News setup payload e past x s
   OneNews : (link : Option LinkId) (m : ClcMessage) → filter_map (clc_in x s) e.posts ≡ m ∷ [] → filter_map (offer_in x s) e.posts ≡ filter_map (offer_in x s) (Clc x s link m ∷ []) → x ≡ acting_side e.event → IsAsked setup payload past x s link m → News setup payload e past x s
 
-pub same-side : (x y : Side) → same_side x y ≡ true → x ≡ y
-same-side A A e = refl
-same-side B B e = refl
-same-side A B e = cc
-same-side B A e = cc
-
-pub both-true : (a b : Bool) → (a && b) ≡ true → (a ≡ true) × (b ≡ true)
-both-true true true e = (refl, refl)
-both-true true false e = cc
-both-true false b e = cc
-
 pub one-in : (x : Side) (s : ℕ) (y : Side) (t : ℕ) (link : Option LinkId) (m : ClcMessage) (more : List Post) → EachPost NoClc more
     → filter_map (clc_in x s) (Clc y t link m ∷ more) ≡ (if same_side x y && (s == t) then m ∷ [] else [])
 one-in x s y t link m more none = ap (λ (ms : List ClcMessage). cons_option (if same_side x y && (s == t) then Some m else None) ms) (none-in x s more none) ∙ by (same_side x y && (s == t))
@@ -416,8 +406,8 @@ news setup payload e past (PutsOne t link m more is none a) x s = by (same_side 
 
     by : (b : Bool) → (same_side x (acting_side e.event) && (s == t)) ≡ b → News setup payload e past x s
     by true f =
-        let both = both-true (same_side x (acting_side e.event)) (s == t) f in
-        let side : x ≡ acting_side e.event = same-side x (acting_side e.event) both.0 in
+        let both = and-both (same_side x (acting_side e.event)) (s == t) f in
+        let side : x ≡ acting_side e.event = same-is x (acting_side e.event) both.0 in
         let socket : s ≡ t = eqb-true s t both.1 in
         OneNews link m (found ∙ ap (λ b. if b then m ∷ [] else []) f)
         (ap (λ (ps : List Post). filter_map (offer_in x s) ps) is ∙ (ap (λ (os : List Offered). cons_option (offer_in x s (Clc (acting_side e.event) t link m)) os) (none-offered x s more none)

@@ -37,7 +37,6 @@ use Rattle.world_core.proofs.LaterManagers.{new_end}
 use Rattle.world_core.proofs.LendingFacts.{each-map, played-lendings, sub-lent}
 use Rattle.world_core.proofs.Lendings.{lent-to-up}
 use Rattle.world_core.proofs.LentRows.{same-verdict}
-use Rattle.world_core.proofs.QuietEntries.{and-false}
 use Rattle.world_core.proofs.QuietEvents.{by-side, entry-of}
 use Rattle.world_core.proofs.QuietManagers.{clc-held, clc-idle}
 use Rattle.world_core.proofs.QuitManagers.{confirm-refused}
@@ -63,13 +62,13 @@ use Rattle.world_core.proofs.PlayedWorlds.{played as has-world}
 use Rattle.world_core.proofs.Handshakes.{offer-of}
 use Rattle.world_core.proofs.ReadyManagers.{asks-to-confirm}
 use Rattle.world_core.proofs.EstablishedManagers.{comes-up-later}
-use Rattle.world_core.proofs.TakenMessages.{end-is, told-is, begun-with, made-with, live-with}
-use Rattle.pipe_model.specs.Fallback.{Whole, front, front_of, front_of_posts, stream, untaken}
+use Rattle.world_core.proofs.TakenMessages.{end-is, told-is, begun-with, made-with, live-with, verdict-is, front-is}
+use Rattle.pipe_model.specs.Fallback.{Whole, front, front_of_posts}
 use Rattle.pipe_model.specs.Replies.{clc_step, clc_told, expects, front_told, step_told}
-use Rattle.pipe_model.specs.Handshake.{verdict}
 use Rattle.world_core.proofs.LinkFacts.{no-group-ends-with}
 use Rattle.pipe_model.specs.Lending.{Lending, lends, lent, leaves_handshake, pipe_of}
 use Rattle.side_core.specs.Landing.{is_wait}
+use Rattle.world_core.proofs.Plain.{if-same, and-false, none-some}
 
 -- what becomes of the manager of the peer: where A has sent the Confirm of first contact, the link is made there
 abbrev pub link_with : Reply → Manager Half → Manager Half
@@ -130,18 +129,6 @@ pub held : (s : ℕ) (m : ClcMessage) (link : LinkId) (paths : List Bool) (v : M
     → (takes_message s m link paths v ≡ v) × (taking_posts s m link paths v ≡ [])
 held s m link paths v e = held-by s m link paths v (verdict_at s m paths v) e
 
--- what is on the stream, and the verdict on it
-front-is : (setup : Setup) (payload : List ℕ) (k : Socket) (s : ℕ) (dir : Side) (past : List Entry) → StandsAt setup k s past → front payload dir s past ≡ front_of_posts (head (untaken_at setup k dir))
-front-is setup payload k s dir past at =
-    ap (λ b. front_of b (stream payload dir s past) (untaken dir s past)) at.raw
-    ∙ ap (λ (ms : List ClcMessage). front_of_posts (head ms)) (at.messages dir)
-
-step-is : (setup : Setup) (payload : List ℕ) (k : Socket) (s : ℕ) (x : Side) (past : List Entry) (m : ClcMessage) (step : ClcStep) → StandsAt setup k s past
-    → verdict false (end_at k x) m (lacks setup payload x past) ≡ step → clc_step setup payload x s m past ≡ step
-step-is setup payload k s x past m step at e =
-    ap (λ b. verdict b (end_state x s past) m (lacks setup payload x past)) at.raw
-    ∙ (ap (λ st. verdict false st m (lacks setup payload x past)) (end-is setup k s past at x) ∙ e)
-
 -- each lending of a socket is of the place that its side offered there
 of-place : (setup : Setup) (payload : List ℕ) (x : Side) (s : ℕ) (past : List Entry) (ob : Offer) → offered x s past ≡ on_link ob → AreLendings setup payload x past → AreOf s (offered_place ob) (lent setup payload x past)
 of-place setup payload x s past ob ours a =
@@ -196,10 +183,6 @@ module _ (setup : Setup) (one : IsOneLink setup) (payload : List ℕ) (regions :
   front-by : (k : Socket) (dir : Side) (m : ClcMessage) → StandsAt setup k s past → head (untaken_at setup k dir) ≡ Some m → front payload dir s past ≡ Whole m (clc_length m)
   front-by k dir m at first = front-is setup payload k s dir past at ∙ ap (λ o. front_of_posts o) first
 
-  either-same : {X : Type 0} (b : Bool) (x : X) → (if b then x else x) ≡ x
-  either-same true x = refl
-  either-same false x = refl
-
   -- an end stays as it was, as long as it is not up
   early-stays : (dir : Side) (reply : Reply) → Plays dir reply → ((x : Side) (t : ℕ) (st : EndState) → after_event x t (Clc s dir) reply st ≡ st)
       → (x : Side) (t : ℕ) → early_state x t (entry-of actor (Clc s dir) reply posts ∷ past) ≡ early_state x t past
@@ -216,7 +199,7 @@ module _ (setup : Setup) (one : IsOneLink setup) (payload : List ℕ) (regions :
       state = end-is setup Proposed s past at B
 
       step-at : (step : ClcStep) → on_proposal false (proposal setup) (lacks setup payload B past) ≡ step → clc_step setup payload B s (ProposalMessage (proposal setup)) past ≡ step
-      step-at step e = step-is setup payload Proposed s B past (ProposalMessage (proposal setup)) step at e
+      step-at step e = verdict-is setup payload Proposed s B past (ProposalMessage (proposal setup)) step at e
 
       by : OnProposal stage (length (free_places setup payload B past) == 0) (on_proposal false (proposal setup) (lacks setup payload B past)) → Goal A reply (ProposalMessage (proposal setup)) no_link
       by (refuses lack e) =
@@ -244,7 +227,7 @@ module _ (setup : Setup) (one : IsOneLink setup) (payload : List ℕ) (regions :
                 lendings_are = lendings-last setup one payload (entry-of actor (Clc s A) (Held hold) posts) past n q was
                     (by-side (λ x. (t : ℕ) → leaves_handshake x t (Clc s A) (Held hold) ≡ false) (λ t. refl) (λ t. and-false (t == s)))
                     (λ x. ap (λ (ps : List Post). filter_map (lends x) ps) i.posts)
-                    (λ x t some. ap (λ st. has_fallen st) (early-stays A (Held hold) q (by-side (λ x. (t : ℕ) (st : EndState) → after_event x t (Clc s A) (Held hold) st ≡ st) (λ t st. refl) (λ t st. either-same (t == s) st)) x t));
+                    (λ x t some. ap (λ st. has_fallen st) (early-stays A (Held hold) q (by-side (λ x. (t : ℕ) (st : EndState) → after_event x t (Clc s A) (Held hold) st ≡ st) (λ t st. refl) (λ t st. if-same (t == s) st)) x t));
               }
       by (begins is none e) =
           let f = has-free setup payload B past one.rmbs_b none in
@@ -262,7 +245,7 @@ module _ (setup : Setup) (one : IsOneLink setup) (payload : List ℕ) (regions :
   -- A takes a Decline
   on-the-decline : (reply : Reply) (r : Refusal) → StandsAt setup (Refused r) s past → Plays B reply → Goal B reply (DeclineMessage r) no_link
   on-the-decline reply r at p =
-      let st = step-is setup payload (Refused r) s A past (DeclineMessage r) Fell at refl in
+      let st = verdict-is setup payload (Refused r) s A past (DeclineMessage r) Fell at refl in
       told-so B reply FellBack (DeclineMessage r) no_link p (told-by (Refused r) B (DeclineMessage r) Fell at refl refl st reply p)
       (λ q. from-alone B FellBack (DeclineMessage r) no_link (λ v. refl) (λ e. cc)
       (answer-refused setup payload regions stage past one.links world was actor n s posts known r (clc_length (DeclineMessage r)) (end-is setup (Refused r) s past at A) (front-by (Refused r) B (DeclineMessage r) at refl) st q (shaken-now B FellBack q) no_link))
@@ -273,7 +256,7 @@ module _ (setup : Setup) (one : IsOneLink setup) (payload : List ℕ) (regions :
       let w : IsWorld setup (Begun s) past = subst (λ (st : Stage). IsWorld setup st past) begun world in
       let i : IsOffer setup B true o = offer-of setup (FirstAccepted o) B o at.offers refl in
       let v : on_accept o (lacks setup payload A past) ≡ SendConfirm true = on-first setup payload past s o w.link i.first_is in
-      let st = step-is setup payload (FirstAccepted o) s A past (AcceptMessage o) (SendConfirm true) at v in
+      let st = verdict-is setup payload (FirstAccepted o) s A past (AcceptMessage o) (SendConfirm true) at v in
       let f = unlent-free setup payload A past one.rmbs_a (none-lent setup payload A past (w.unlent A refl)) one.elements_a in
       told-so B reply (Sent ConfirmSent) (AcceptMessage o) the_link p (told-by (FirstAccepted o) B (AcceptMessage o) (SendConfirm true) at refl refl st reply p)
       (λ q. so (first-confirmed setup one payload regions past s w was known f.0 f.1 (fresh-at A (at.up A) (at.up B) p.0 p.3) o (clc_length (AcceptMessage o)) (at.offer B) (front-by (FirstAccepted o) B (AcceptMessage o) at refl) st actor n posts q (shaken-now B (Sent ConfirmSent) q)))
@@ -293,7 +276,7 @@ module _ (setup : Setup) (one : IsOneLink setup) (payload : List ℕ) (regions :
       let w : IsWorld setup (Made s) past = subst (λ (st : Stage). IsWorld setup st past) made world in
       let j : IsOffer setup A true c = offer-of setup (FirstConfirmed o c) A c at.offers refl in
       let v : on_confirm c (lacks setup payload B past) ≡ Ready = on-confirm setup payload past (Made s) c w.link refl j.psn in
-      let st = step-is setup payload (FirstConfirmed o c) s B past (ConfirmMessage c) Ready at v in
+      let st = verdict-is setup payload (FirstConfirmed o c) s B past (ConfirmMessage c) Ready at v in
       told-so A reply (Sent LinkSent) (ConfirmMessage c) the_link p (told-by (FirstConfirmed o c) A (ConfirmMessage c) Ready at refl refl st reply p ∙ ap (λ b. if b then Sent LinkSent else Established) j.first_is)
       (λ q. from-alone A (Sent LinkSent) (ConfirmMessage c) the_link (λ v. refl) (λ e. cc)
       (asks-to-confirm setup payload regions past one.links s w was actor n posts known c (clc_length (ConfirmMessage c)) (at.offer A) (named-by (FirstConfirmed o c) o at refl) j.first_is (end-is setup (FirstConfirmed o c) s past at B) (at.up B)
@@ -310,7 +293,7 @@ module _ (setup : Setup) (one : IsOneLink setup) (payload : List ℕ) (regions :
       i = offer-of setup (Accepted o) B o at.offers refl
 
       step-at : (step : ClcStep) → on_accept o (lacks setup payload A past) ≡ step → clc_step setup payload A s (AcceptMessage o) past ≡ step
-      step-at step e = step-is setup payload (Accepted o) s A past (AcceptMessage o) step at e
+      step-at step e = verdict-is setup payload (Accepted o) s A past (AcceptMessage o) step at e
 
       by : OnAccept (length (free_places setup payload A past) == 0) (on_accept o (lacks setup payload A past)) → Goal B reply (AcceptMessage o) the_link
       by (refuses lack e) =
@@ -329,7 +312,7 @@ module _ (setup : Setup) (one : IsOneLink setup) (payload : List ℕ) (regions :
       let w : IsWorld setup (LiveAtBoth u) past = subst (λ (st : Stage). IsWorld setup st past) live world in
       let j : IsOffer setup A false c = offer-of setup (Confirmed o c) A c at.offers refl in
       let v : on_confirm c (lacks setup payload B past) ≡ Ready = on-confirm setup payload past (LiveAtBoth u) c w.link refl j.psn in
-      let st = step-is setup payload (Confirmed o c) s B past (ConfirmMessage c) Ready at v in
+      let st = verdict-is setup payload (Confirmed o c) s B past (ConfirmMessage c) Ready at v in
       told-so A reply Established (ConfirmMessage c) the_link p (told-by (Confirmed o c) A (ConfirmMessage c) Ready at refl refl st reply p ∙ ap (λ b. if b then Sent LinkSent else Established) j.first_is)
       (λ q. from-alone A Established (ConfirmMessage c) the_link (λ v. refl) (λ e. cc)
       (comes-up-later setup payload regions past one.links u s w was actor n posts known c (clc_length (ConfirmMessage c)) (at.offer A) (named-by (Confirmed o c) o at refl) j.first_is j.rmb (end-is setup (Confirmed o c) s past at B) (at.up B)
@@ -339,7 +322,7 @@ module _ (setup : Setup) (one : IsOneLink setup) (payload : List ℕ) (regions :
   on-the-refusal : (reply : Reply) (o : Offer) (r : Refusal) → StandsAt setup (AcceptRefused o r) s past → Plays A reply → Goal A reply (DeclineMessage r) no_link
   on-the-refusal reply o r at p =
       let i : IsOffer setup B false o = offer-of setup (AcceptRefused o r) B o at.offers refl in
-      let st = step-is setup payload (AcceptRefused o r) s B past (DeclineMessage r) Fell at refl in
+      let st = verdict-is setup payload (AcceptRefused o r) s B past (DeclineMessage r) Fell at refl in
       let a : AreLendings setup payload B past = played-lendings setup one payload past p.0 p.3 B in
       told-so A reply FellBack (DeclineMessage r) no_link p (told-by (AcceptRefused o r) A (DeclineMessage r) Fell at refl refl st reply p)
       (λ q. from-alone A FellBack (DeclineMessage r) no_link (λ v. refl) (λ e. cc)
@@ -359,9 +342,6 @@ module _ (setup : Setup) (one : IsOneLink setup) (payload : List ℕ) (regions :
   at-link : (dir : Side) (reply : Reply) (m : ClcMessage) (a b : LinkId) → a ≡ b → Goal dir reply m a → Goal dir reply m b
   at-link dir reply m a b e g = subst (λ l. Goal dir reply m l) e g
 
-  none-there : (m : ClcMessage) → None ≡ Some m → ⊥
-  none-there m e = cc
-
   pub clc-taken : (k : Socket) (dir : Side) (reply : Reply) (m : ClcMessage) → StandsAt setup k s past → suits stage s k ≡ true → Plays dir reply → expects (end_at k (other dir)) ≡ true → head (untaken_at setup k dir) ≡ Some m
       → Goal dir reply m (link_of dir s past)
   clc-taken Proposed A reply m at suit p waits first =
@@ -380,8 +360,8 @@ module _ (setup : Setup) (one : IsOneLink setup) (payload : List ℕ) (regions :
   clc-taken (Confirmed o c) A reply m at suit p waits first =
       let u = live-with stage s (Confirmed o c) refl refl suit in
       at-link A reply m the_link (link_of A s past) (on-offer (Confirmed o c) A c at refl) (with-message A reply the_link (ConfirmMessage c) m first (on-the-later-confirm u.0 reply o c at u.1 p))
-  clc-taken k A reply m at suit p waits first = absurd (none-there m first)
-  clc-taken k B reply m at suit p waits first = absurd (none-there m first)
+  clc-taken k A reply m at suit p waits first = absurd (none-some m first)
+  clc-taken k B reply m at suit p waits first = absurd (none-some m first)
 
   -- nothing is taken
   idle-told : (dir : Side) (k : Socket) → StandsAt setup k s past → (expects (end_at k (other dir)) ≡ false) ⊎ (head (untaken_at setup k dir) ≡ None) → clc_told setup payload s dir past ≡ Idle
@@ -389,7 +369,7 @@ module _ (setup : Setup) (one : IsOneLink setup) (payload : List ℕ) (regions :
   idle-told dir k at (inr e) =
       told-is setup payload k s dir past at
       ∙ (ap (λ o. if expects (end_at k (other dir)) then front_told setup payload (other dir) s past (front_of_posts o) else Idle) e
-      ∙ either-same (expects (end_at k (other dir))) Idle)
+      ∙ if-same (expects (end_at k (other dir))) Idle)
 
   idle-so : (dir : Side) → Plays dir Idle → IsIdleSo setup payload regions (entry-of actor (Clc s dir) Idle posts) past
   idle-so dir q =
@@ -407,8 +387,8 @@ module _ (setup : Setup) (one : IsOneLink setup) (payload : List ℕ) (regions :
       stays B = by-side (λ x. (t : ℕ) → leaves_handshake x t (Clc s B) Idle ≡ false) (λ t. and-false (t == s)) (λ t. refl)
 
       after : (d : Side) (x : Side) (t : ℕ) (st : EndState) → after_event x t (Clc s d) Idle st ≡ st
-      after A = by-side (λ x. (t : ℕ) (st : EndState) → after_event x t (Clc s A) Idle st ≡ st) (λ t st. refl) (λ t st. either-same (t == s) st)
-      after B = by-side (λ x. (t : ℕ) (st : EndState) → after_event x t (Clc s B) Idle st ≡ st) (λ t st. either-same (t == s) st) (λ t st. refl)
+      after A = by-side (λ x. (t : ℕ) (st : EndState) → after_event x t (Clc s A) Idle st ≡ st) (λ t st. refl) (λ t st. if-same (t == s) st)
+      after B = by-side (λ x. (t : ℕ) (st : EndState) → after_event x t (Clc s B) Idle st ≡ st) (λ t st. if-same (t == s) st) (λ t st. refl)
 
   pub clc-idles : (dir : Side) (reply : Reply) (k : Socket) → StandsAt setup k s past → Plays dir reply → (expects (end_at k (other dir)) ≡ false) ⊎ (head (untaken_at setup k dir) ≡ None)
       → IsIdleSo setup payload regions (entry-of actor (Clc s dir) reply posts) past

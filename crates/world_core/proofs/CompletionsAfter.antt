@@ -43,7 +43,7 @@ use Rattle.world_core.proofs.ClcPosts.{no-clc-posts, none-put}
 use Rattle.world_core.proofs.OwnWires.{wire-own, room-own, each-aimed}
 use Rattle.world_core.proofs.DataSends.{data-may-go}
 use Rattle.world_core.proofs.WiresAfter.{wire-theirs}
-use Rattle.world_core.proofs.MovedWires.{complete-own, complete-else, twice}
+use Rattle.world_core.proofs.MovedWires.{complete-own, complete-else}
 use Rattle.world_core.proofs.CallEntries.{IsNothing}
 use Rattle.world_core.proofs.CompletionEntries.{completes-nothing, completes-write, completes-message}
 use Rattle.world_core.proofs.MessageEnds.{completing as message-completing}
@@ -53,6 +53,7 @@ use Rattle.pipe_model.specs.declared.sent.Sent.{Sent}
 use Rattle.side_core.specs.Acting.{acts_at, due_at}
 use Rattle.side_core.specs.Landing.{MayCompleteIn, CompletesIn}
 use Rattle.world_core.proofs.WireEntries.{IsDone}
+use Rattle.world_core.proofs.Plain.{twice}
 
 -- a completion brings no bytes into a stream
 not-written : (payload : List ℕ) (y x : Side) (s : ℕ) (reply : Reply) (past : List Entry) → written payload y s (Complete 1 x) reply past ≡ []

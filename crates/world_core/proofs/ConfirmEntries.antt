@@ -1,7 +1,7 @@
 -- A takes the Accept of first contact and confirms: it is what its manager does with the message.
 use Rattle.clc_handshake.specs.Stages.{named_group, after_step}
 use Rattle.pipe_model.specs.Keys.{keys_of}
-use Rattle.std.proofs.Common.{◌≡◌, ◌∙◌, ◌⊎◌, inl, inr, ℕ, ◌+◌, ◌<◌, ◌==◌, true, false, if◌then◌else◌, List, [], ◌∷◌, ◌++◌, length, filter_map, reverse, refl, ap, sym, subst, true≢false, eq-eqb}
+use Rattle.std.proofs.Common.{◌≡◌, ◌∙◌, ◌⊎◌, inl, inr, ℕ, ◌+◌, ◌<◌, ◌==◌, true, false, if◌then◌else◌, List, [], ◌∷◌, ◌++◌, length, filter_map, refl, ap, sym, subst, true≢false, eq-eqb}
 use Rattle.std.specs.Prelude.{Some, None, option_map, unwrap_or}
 use Rattle.smc_num.specs.declared.Side.{Side}
 use Rattle.smc_num.specs.declared.Side.TheVariants.{A, B}
@@ -40,10 +40,9 @@ use Rattle.world_core.specs.Played.{IsOneLink, IsPlayed}
 use Rattle.world_core.specs.Agreement.{IsShaken}
 use Rattle.world_core.specs.Wired.{EachItem, keeps_open}
 use Rattle.world_core.specs.Managers.{manager_of, desk_of, HasLendings}
-use Rattle.world_core.proofs.EntryItems.{items-are}
+use Rattle.world_core.proofs.EntryItems.{items-are, below-ups}
 use Rattle.world_core.proofs.Offers.{IsFree, new-is-offer}
 use Rattle.world_core.proofs.QuietEvents.{by-side, entry-of}
-use Rattle.world_core.proofs.QuietEntries.{and-false}
 use Rattle.world_core.proofs.Moves.{link-moves, keeps-group}
 use Rattle.world_core.proofs.LinkMoves.{makes-link as makes-the-link}
 use Rattle.world_core.proofs.Parts.{part-open}
@@ -51,6 +50,7 @@ use Rattle.world_core.proofs.StillEntries.{silent-pipes}
 use Rattle.world_core.proofs.LentRows.{free-place, same-verdict}
 use Rattle.world_core.proofs.TakenAlone.{paths_of}
 use Rattle.world_core.proofs.ConfirmManagers.{confirm_entry, confirms-own, confirms-theirs, confirms-lendings}
+use Rattle.world_core.proofs.Plain.{and-false}
 
 -- an entry in which A takes the Accept of first contact: its reply, its posts and its manager are what its manager makes of the message,
 -- and in the manager of B the link is made
@@ -136,13 +136,7 @@ module _ (setup : Setup) (one : IsOneLink setup) (payload : List ℕ) (regions :
   no-items : (a : ℕ) (g t : ℕ) → items payload g t (confirm_entry a s o) past ≡ []
   no-items a g t =
       let e : Entry = confirm_entry a s o in
-      items-are payload g t e past
-      ∙ (ap (λ (us : List Item). reverse (us ++ ups B t e past) ++ reverse (group_end A g e past ++ group_end B g e past) ++ reverse (fates A g e past ++ fates B g e past)) (no-ups a A t)
-      ∙ (ap (λ (us : List Item). reverse us ++ reverse (group_end A g e past ++ group_end B g e past) ++ reverse (fates A g e past ++ fates B g e past)) (no-ups a B t)
-      ∙ (ap (λ (us : List Item). reverse (us ++ group_end B g e past) ++ reverse (fates A g e past ++ fates B g e past)) (no-end a A g)
-      ∙ (ap (λ (us : List Item). reverse us ++ reverse (fates A g e past ++ fates B g e past)) (no-end a B g)
-      ∙ (ap (λ (us : List Item). reverse (us ++ fates B g e past)) (no-fates a A g)
-      ∙ ap (λ (us : List Item). reverse us) (no-fates a B g))))))
+      items-are payload g t e past ∙ below-ups g t e past [] (ap (λ (us : List Item). us ++ ups B t e past) (no-ups a A t) ∙ no-ups a B t) (λ y. no-end a y g) (λ y. no-fates a y g)
 
   rmb-next : (next_place (desk_of setup payload A past)).rmb ≡ 1
   rmb-next = ap (λ q. let r : Place = unwrap_or q (record { rmb = 0; index = 0 }) in r.rmb) (free-place setup payload A past ∙ free_at.found) ∙ free_at.rmb

@@ -1,9 +1,9 @@
 -- A confirms in first contact: the lowest free element is lent to a new connection of the socket in a new group, the link is made, and
 -- the key that the Accept tells is learnt; in the manager of B the link is made.
-use Rattle.world_core.proofs.OpenEnds.{never-over}
+use Rattle.world_core.proofs.OpenEnds.{stays-out}
 use Rattle.std.specs.List.{cons_option}
 use Rattle.pipe_model.specs.Words.{rmbs_of, elements_of}
-use Rattle.std.proofs.Common.{◌≡◌, ◌∙◌, ℕ, ◌+◌, ◌-◌, ◌<◌, ◌==◌, ◌||◌, not, Bool, true, false, cond, if◌then◌else◌, List, [], ◌∷◌, ◌++◌, length, map, filter, refl, ap, sym, subst, eq-eqb, eqb-true, arith, suc, zero}
+use Rattle.std.proofs.Common.{◌≡◌, ◌∙◌, ℕ, ◌+◌, ◌-◌, ◌<◌, ◌==◌, not, Bool, true, false, cond, if◌then◌else◌, List, [], ◌∷◌, ◌++◌, length, map, filter, refl, ap, sym, subst, eq-eqb, eqb-true, arith, suc, zero}
 use Rattle.std.specs.Prelude.{Option, Some, None, option_map, unwrap_or, slice_set, slice_index_or}
 use Rattle.std.specs.Option.{option_or}
 use Rattle.smc_num.specs.declared.Side.{Side}
@@ -11,7 +11,7 @@ use Rattle.smc_num.specs.declared.Side.TheVariants.{A, B}
 use Rattle.smc_num.specs.declared.LinkId.{LinkId}
 use Rattle.smc_num.specs.Names.{up_to, head, no_link}
 use Rattle.smc_num.specs.Links.{live_links}
-use Rattle.smc_num.specs.Places.{rmb_at, same_place, all_places, is_free}
+use Rattle.smc_num.specs.Places.{rmb_at, all_places, is_free}
 use Rattle.rmb_region.specs.Regions.{Buffer}
 use Rattle.clc_wire.specs.declared.offer.Offer.{Offer}
 use Rattle.clc_wire.specs.declared.message.ClcMessage.TheVariants.{Confirm as ConfirmMessage}
@@ -24,9 +24,9 @@ use Rattle.pipe_model.specs.declared.post.Post.TheVariants.{Clc as ClcPost}
 use Rattle.pipe_model.specs.declared.entry.Entry.{Entry}
 use Rattle.pipe_model.specs.History.{Offered, offered, offered_if}
 use Rattle.pipe_model.specs.Fabric.{Fabric, table_of, loses_group_with, made_on}
-use Rattle.pipe_model.specs.Ends.{Half, fresh, is_over}
+use Rattle.pipe_model.specs.Ends.{Half, fresh}
 use Rattle.pipe_model.specs.Pipe.{Item, half, pipe}
-use Rattle.pipe_model.specs.Connections.{WaitsConfirm, WaitsLink, IsUp, is_up, early_state, end_state, named_link, group_on, items, part, after_loss}
+use Rattle.pipe_model.specs.Connections.{WaitsConfirm, WaitsLink, IsUp, is_up, early_state, end_state, group_on, items, part, after_loss}
 use Rattle.pipe_model.specs.Lending.{Lending, lendings, lends_by, lent, lent_places, returns, free_places, pipe_of, terms_of, leaves_handshake}
 use Rattle.pipe_model.specs.Fallback.{is_raw}
 use Rattle.pipe_model.specs.Messages.{pair_on, serial, pair_number, new_pair}
@@ -40,13 +40,15 @@ use Rattle.world_core.specs.OneLink.{the_link, Begun, Made, fabric_at, groups_at
 use Rattle.world_core.specs.Wired.{EachItem, keeps_open}
 use Rattle.world_core.specs.Managers.{manager_of, desk_of, hand_of, conn_of, end_of, route_of, rows_of, first_on, each_socket, lending_on, heard_on, awaits_confirm, keeps_element, epoch_in, lending_due, HasLendings}
 use Rattle.world_core.proofs.QuietEvents.{by-side, entry-of}
-use Rattle.world_core.proofs.QuietEntries.{all-stay, and-false}
-use Rattle.world_core.proofs.StartedRows.{rows-change, epoch-stays, not-of-free, spare-less, next-is, epoch-here, free-of, eqb-sym}
-use Rattle.world_core.proofs.SameManagers.{desk_from, rows_from, conn_from, route_from, same-conn, same-spare}
+use Rattle.world_core.proofs.QuietEntries.{all-stay}
+use Rattle.world_core.proofs.StartedRows.{rows-change, spare-less, next-is, epoch-here, eqb-sym, conn-beside}
+use Rattle.world_core.proofs.SameManagers.{desk_from, rows_from, same-conn, same-spare, hand-same}
 use Rattle.world_core.proofs.LinkManagers.{stage-desk}
 use Rattle.world_core.proofs.KeptManagers.{by-parts}
-use Rattle.world_core.proofs.Lendings.{lending-due}
+use Rattle.world_core.proofs.Lendings.{lending-due, due-same}
 use Rattle.world_core.proofs.Tables.{same-sockets, set-socket, at-socket, sockets-long}
+use Rattle.world_core.proofs.Plain.{and-false, plus-none}
+use Rattle.std.proofs.Math.Numerals.{add-one}
 
 -- the entry of a Confirm of first contact
 abbrev pub confirm_entry : ℕ → ℕ → Offer → Entry
@@ -107,10 +109,7 @@ module _ (setup : Setup) (payload : List ℕ) (regions : List Buffer) (past : Li
   stays = by-side (λ y. (t : ℕ) → leaves_handshake y t (Clc s B) (Sent ConfirmSent) ≡ false) (λ t. and-false (t == s)) (λ t. refl)
 
   returns-none : (y : Side) (k : Lending) → returns setup payload y e past k ≡ false
-  returns-none y k =
-      ap (λ b. b || (loses_group_with y k.group e past || is_over (half y (pipe_of setup payload k.group k.s (e ∷ past))))) (stays y k.s)
-      ∙ (ap (λ b. b || is_over (half y (pipe_of setup payload k.group k.s (e ∷ past)))) (no_loss y k.group)
-      ∙ never-over (terms_of setup) y (part payload k.group k.s (e ∷ past)) (open_items k.group k.s))
+  returns-none y k = stays-out setup payload e past y k (stays y k.s) (no_loss y k.group) (open_items k.group k.s)
 
   lent-a : lent setup payload A (e ∷ past) ≡ l ∷ lent setup payload A past
   lent-a = ap (λ (ls : List Lending). l ∷ ls) (all-stay (λ k. not (returns setup payload A e past k)) (lent setup payload A past) (λ k. ap (λ b. not b) (returns-none A k)))
@@ -120,9 +119,6 @@ module _ (setup : Setup) (payload : List ℕ) (regions : List Buffer) (past : Li
 
   rows-a : rows_of setup payload A (e ∷ past) ≡ map (changes_at (offered_place o) (lends_row s)) (rows_of setup payload A past)
   rows-a = ap (λ (ls : List Lending). rows_from setup A (l ∷ lendings A past) ls) lent-a ∙ rows-change l (lendings A past) (lent setup payload A past) (all_places (rmbs_of setup A) (elements_of setup A))
-
-  plus-none : (n : ℕ) → n + 0 ≡ n
-  plus-none n = omega arith
 
   -- the queue pair
   pair-a : new_pair A e past ≡ 1
@@ -178,9 +174,6 @@ module _ (setup : Setup) (payload : List ℕ) (regions : List Buffer) (past : Li
   state-here : end_state A s (e ∷ past) ≡ WaitsLink
   state-here = ap (λ b. if b then IsUp else early_state A s (e ∷ past)) down ∙ (early-a s ∙ ap (λ b. if b then WaitsLink else early_state A s past) (eq-eqb s s refl))
 
-  hand-by : (y : Side) (t : ℕ) → end_state y t (e ∷ past) ≡ end_state y t past → hand_of y (e ∷ past) t ≡ hand_of y past t
-  hand-by y t same = ap (λ a. let h : Hand = record { raw = is_raw t past; state = a } in h) same
-
   hand-here : hand_of A (e ∷ past) s ≡ record (hand_at s here) { state = WaitsLink }
   hand-here =
       ap (λ a. let h : Hand = record { raw = is_raw s past; state = a } in h) state-here
@@ -233,20 +226,8 @@ module _ (setup : Setup) (payload : List ℕ) (regions : List Buffer) (past : Li
 
   conn-else : (t : ℕ) → (t == s) ≡ false → conn_of setup payload A (e ∷ past) t ≡ conn_of setup payload A past t
   conn-else t d =
-      ap (λ q. conn_from t (named_link t past) (is_up A t past) (l ∷ lendings A past) q (end_of setup payload A t (e ∷ past)) (lent setup payload A (e ∷ past))) (ap (λ st. if awaits_confirm st then None else option_map (λ (p : Offered). p.offer) (offered B t past)) (state-else t d))
-      ∙ (ap (λ h. conn_from t (named_link t past) (is_up A t past) (l ∷ lendings A past) (heard_on A t past) h (lent setup payload A (e ∷ past))) (end-by A t)
-      ∙ (ap (λ q. option_map (λ k. let c : Connection Half = record { route = route_from (named_link t past) (is_up A t past) (l ∷ lendings A past) (heard_on A t past) k; end = end_of setup payload A t past } in c) q) (lending-else t d)
-      ∙ by (lending_on t (lent setup payload A past)) refl))
-    where
-      by : (q : Option Lending) → lending_on t (lent setup payload A past) ≡ q
-          → option_map (λ k. let c : Connection Half = record { route = route_from (named_link t past) (is_up A t past) (l ∷ lendings A past) (heard_on A t past) k; end = end_of setup payload A t past } in c) q
-          ≡ option_map (λ k. let c : Connection Half = record { route = route_from (named_link t past) (is_up A t past) (lendings A past) (heard_on A t past) k; end = end_of setup payload A t past } in c) q
-      by None i = refl
-      by (Some m) i =
-          let f : is_free (lent_places (lent setup payload A past)) (offered_place o) ≡ true = free-of setup payload A past one (offered_place o) free in
-          let apart : same_place m.place (offered_place o) ≡ false = not-of-free t (offered_place o) (lent setup payload A past) m f i in
-          ap (λ n. Some (record { route = record { link = unwrap_or (named_link t past) no_link; up = is_up A t past; element = record { rmb = m.place.rmb; index = m.place.index; epoch = n }; token = m.token; peer = heard_on A t past }; end = end_of setup payload A t past }))
-          (epoch-stays l (lendings A past) (lent setup payload A past) m apart)
+      conn-beside setup payload A e past l one free refl t
+      (record { up = refl; link = refl; heard = ap (λ st. if awaits_confirm st then None else option_map (λ (p : Offered). p.offer) (offered B t past)) (state-else t d) }) (end-by A t) (lending-else t d)
 
   heard-b : (t : ℕ) → heard_on B t (e ∷ past) ≡ heard_on B t past
   heard-b t = by (t == s) refl
@@ -265,10 +246,7 @@ module _ (setup : Setup) (payload : List ℕ) (regions : List Buffer) (past : Li
   spare-a = ap (λ (ls : List Lending). length (filter (is_free (lent_places ls)) (all_places (rmbs_of setup A) (elements_of setup A)))) lent-a ∙ spare-less setup payload A past one (offered_place o) free
 
   tokens-a : length (lendings A (e ∷ past)) ≡ length (lendings A past) + 1
-  tokens-a = plus (length (lendings A past))
-    where
-      plus : (n : ℕ) → suc n ≡ n + 1
-      plus n = omega arith
+  tokens-a = sym (add-one (length (lendings A past)))
 
   abbrev conns0 : List (Option (Connection Half))
   conns0 = each_socket (conn_of setup payload A past) setup.sockets
@@ -288,7 +266,7 @@ module _ (setup : Setup) (payload : List ℕ) (regions : List Buffer) (past : Li
       (slice_set (slice_set conns0 s (Some new_conn)) s (option_map (λ (k : Connection Half). let c : Connection Half = record k { route = record k.route { peer = Some ob } } in c) (slice_index_or (slice_set conns0 s (Some new_conn)) s None)))
       (length (lendings A past) + 1) (length (free_places setup payload A past) - 1)
       desk-a
-      (sym (set-socket (hand_of A past) (hand_of A (e ∷ past)) setup.sockets s (λ t d. hand-by A t (state-else t d))) ∙ ap (λ h. slice_set (each_socket (hand_of A past) setup.sockets) s h) hand-here)
+      (sym (set-socket (hand_of A past) (hand_of A (e ∷ past)) setup.sockets s (λ t d. hand-same A (e ∷ past) past t refl (state-else t d))) ∙ ap (λ h. slice_set (each_socket (hand_of A past) setup.sockets) s h) hand-here)
       (sym (set-socket (conn_of setup payload A past) (conn_of setup payload A (e ∷ past)) setup.sockets s conn-else) ∙ (ap (λ (k : Option (Connection Half)). slice_set conns0 s k) conn-here ∙ aims-new))
       tokens-a spare-a
 
@@ -296,22 +274,17 @@ module _ (setup : Setup) (payload : List ℕ) (regions : List Buffer) (past : Li
   pub confirms-theirs : manager_of setup payload regions B (e ∷ past) ≡ with_desk (makes_link the_link) (manager_of setup payload regions B past)
   confirms-theirs =
       by-parts setup payload regions B (e ∷ past) (makes_link the_link (desk_of setup payload B past)) (each_socket (hand_of B past) setup.sockets) (each_socket (conn_of setup payload B past) setup.sockets) (length (lendings B past)) (length (free_places setup payload B past))
-      desk-b (same-sockets (hand_of B (e ∷ past)) (hand_of B past) (λ t. hand-by B t (state-b t)) setup.sockets) (same-sockets (conn_of setup payload B (e ∷ past)) (conn_of setup payload B past) conn-b setup.sockets)
+      desk-b (same-sockets (hand_of B (e ∷ past)) (hand_of B past) (λ t. hand-same B (e ∷ past) past t refl (state-b t)) setup.sockets) (same-sockets (conn_of setup payload B (e ∷ past)) (conn_of setup payload B past) conn-b setup.sockets)
       refl (same-spare setup payload B (e ∷ past) past lent-b)
-
-  due-by : (y : Side) (t : ℕ) → end_state y t (e ∷ past) ≡ end_state y t past → offered y t (e ∷ past) ≡ offered y t past → lending_due y t (e ∷ past) ≡ lending_due y t past
-  due-by y t st of =
-      ap (λ st. if keeps_element st then option_map (λ (o : Offered). lends_by t o.link o.offer) (offered y t (e ∷ past)) else None) st
-      ∙ ap (λ q. if keeps_element (end_state y t past) then option_map (λ (o : Offered). lends_by t o.link o.offer) q else None) of
 
   -- each socket has its lending
   pub confirms-lendings : HasLendings setup payload (e ∷ past)
   confirms-lendings = record { each = by-side (λ y. (t : ℕ) → lending_on t (lent setup payload y (e ∷ past)) ≡ lending_due y t (e ∷ past)) (λ t. of_a t (t == s) refl) of_b }
     where
       of_b : (t : ℕ) → lending_on t (lent setup payload B (e ∷ past)) ≡ lending_due B t (e ∷ past)
-      of_b t = ap (λ (ls : List Lending). lending_on t ls) lent-b ∙ (lendings_are.each B t ∙ sym (due-by B t (state-b t) refl))
+      of_b t = ap (λ (ls : List Lending). lending_on t ls) lent-b ∙ (lendings_are.each B t ∙ sym (due-same B t (e ∷ past) past (state-b t) refl))
 
       of_a : (t : ℕ) (b : Bool) → (t == s) ≡ b → lending_on t (lent setup payload A (e ∷ past)) ≡ lending_due A t (e ∷ past)
       of_a t true i = subst (λ k. lending_on k (lent setup payload A (e ∷ past)) ≡ lending_due A k (e ∷ past)) (sym (eqb-true t s i))
           (lending-here ∙ sym (lending-due A s (e ∷ past) (record { link = the_link; offer = o }) offer-a (ap (λ st. keeps_element st) state-here)))
-      of_a t false d = lending-else t d ∙ (lendings_are.each A t ∙ sym (due-by A t (state-else t d) (offer-else t d)))
+      of_a t false d = lending-else t d ∙ (lendings_are.each A t ∙ sym (due-same A t (e ∷ past) past (state-else t d) (offer-else t d)))

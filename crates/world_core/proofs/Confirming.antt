@@ -1,5 +1,5 @@
 -- CONFIRM LINK and its reply: what is known of the link, and of the socket of first contact, as a side takes one of them.
-use Rattle.std.proofs.Common.{◌≡◌, ◌∙◌, ℕ, ◌==◌, ◌&&◌, Bool, true, false, if◌then◌else◌, List, [], ◌∷◌, ◌++◌, reverse, filter_map, refl, ap, sym, eq-eqb, true≢false}
+use Rattle.std.proofs.Common.{◌≡◌, ◌∙◌, ℕ, ◌==◌, ◌&&◌, Bool, true, false, if◌then◌else◌, List, [], ◌∷◌, ◌++◌, reverse, filter_map, refl, ap, sym, true≢false}
 use Rattle.std.specs.Prelude.{Some, None, option_map, option_and_then, option_to_list}
 use Rattle.std.specs.Option.{option_or}
 use Rattle.smc_num.specs.declared.Side.{Side}
@@ -23,6 +23,7 @@ use Rattle.world_core.specs.Sockets.{Socket, Unopened, Fallen, Proposed, Refused
 use Rattle.world_core.proofs.SameManagers.{desk_from}
 use Rattle.world_core.proofs.QuietEntries.{same-group}
 use Rattle.world_core.proofs.EntryItems.{below, items-are}
+use Rattle.world_core.proofs.LinkFacts.{then-it}
 
 -- which side takes which message: A the CONFIRM LINK, B the reply
 pub data Confirming : Side → ℕ → Stage → Stage → Bool → Type 0 where
@@ -63,9 +64,6 @@ module _ (setup : Setup) (past : List Entry) where
   others-none : (s t : ℕ) (b : Bool) (k : Socket) → StandsAt setup k s past → (s == t) ≡ false → (if s == t then b else is_unoffered k) ≡ true → (y : Side) → offered y s past ≡ None
   others-none s t b k at n suits y = at.offer y ∙ unoffered k y (sym (ap (λ c. if c then b else is_unoffered k) n) ∙ suits)
 
-  this-one : (t : ℕ) (a b : Bool) → (if t == t then a else b) ≡ true → a ≡ true
-  this-one t a b e = sym (ap (λ c. if c then a else b) (eq-eqb t t refl)) ∙ e
-
   awaits : (t : ℕ) (k : Socket) → (first_step k == 3) ≡ true → StandsAt setup k t past → ((s : ℕ) → (s == t) ≡ false → (y : Side) → offered y s past ≡ None) → IsWaiting setup A t past
   awaits t (AwaitsLink o p) e at others = let f = at.offers B (record { link = the_link; offer = o }) refl in record {
     offer = o;
@@ -104,11 +102,11 @@ module _ (setup : Setup) (past : List Entry) where
   pub is-waiting : {x : Side} {t : ℕ} {from to : Stage} {reply : Bool} → Confirming x t from to reply → IsWorld setup from past → IsWaiting setup x t past
   is-waiting (at_a t qp rq) w =
       let h = w.sockets t in
-      awaits t h.at (this-one t (first_step h.at == 3) (is_unoffered h.at) h.suits_is) h.stands
+      awaits t h.at (then-it t (first_step h.at == 3) (is_unoffered h.at) h.suits_is) h.stands
       (λ s n. let g = w.sockets s in others-none s t (first_step g.at == 3) g.at g.stands n g.suits_is)
   is-waiting (at_b t qp) w =
       let h = w.sockets t in
-      awaits-b t h.at (this-one t (first_step h.at == 4) (is_unoffered h.at) h.suits_is) h.stands
+      awaits-b t h.at (then-it t (first_step h.at == 4) (is_unoffered h.at) h.suits_is) h.stands
       (λ s n. let g = w.sockets s in others-none s t (first_step g.at == 4) g.at g.stands n g.suits_is)
 
 -- the desks: the link of the taker goes live, and the other side's stays

@@ -33,17 +33,14 @@ use Rattle.world_core.proofs.PlayedWorlds.{played}
 use Rattle.world_core.proofs.Shaken.{only-link}
 use Rattle.world_core.proofs.Handshaken.{one-batch}
 use Rattle.world_core.proofs.Batched.{cdc_count, AreBatched, ours, batch-ours, Posts, queue, queue-step}
-
-and-no : (b : Bool) → (b && false) ≡ false
-and-no true = refl
-and-no false = refl
+use Rattle.world_core.proofs.Plain.{and-false}
 
 -- of handshake and flows nothing stays in the queue
 control-none : (link : LinkId) (x : Side) (ps : List Post) → EachPost IsControl ps → ours link x ps ≡ []
 control-none link x [] p = refl
-control-none link x (Llc from l m ∷ ps) p = ap (λ b. cond b (Llc from l m ∷ ours link x ps) (ours link x ps)) (and-no (is_on link x (Llc from l m))) ∙ control-none link x ps p.1
+control-none link x (Llc from l m ∷ ps) p = ap (λ b. cond b (Llc from l m ∷ ours link x ps) (ours link x ps)) (and-false (is_on link x (Llc from l m))) ∙ control-none link x ps p.1
 control-none link x (Clc from s l m ∷ ps) p =
-    ap (λ b. cond (b && true) (Clc from s l m ∷ ours link x ps) (ours link x ps)) (and-no (same_side x from)) ∙ control-none link x ps p.1
+    ap (λ b. cond (b && true) (Clc from s l m ∷ ours link x ps) (ours link x ps)) (and-false (same_side x from)) ∙ control-none link x ps p.1
 control-none link x (Write from l key address len ∷ ps) p = absurd p.0
 control-none link x (Cdc from l m ∷ ps) p = absurd p.0
 

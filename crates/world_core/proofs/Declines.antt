@@ -12,9 +12,9 @@ use Rattle.clc_wire.specs.declared.message.ClcMessage.TheVariants.{Proposal as P
 use Rattle.pipe_model.specs.declared.verdict.ClcStep.{ClcStep}
 use Rattle.pipe_model.specs.declared.verdict.ClcStep.TheVariants.{SendAccept, SendConfirm, AskKey, Wait, Decline, Fell, Ready, Lost, Wrong}
 use Rattle.pipe_model.specs.declared.verdict.Lacks.{Lacks}
-use Rattle.pipe_model.specs.declared.reply.Hold.TheVariants.{FirstContact as FirstContactHold, AddLink as AddLinkHold, ConfirmRkey as ConfirmRkeyHold, DeleteRkey as DeleteRkeyHold}
+use Rattle.pipe_model.specs.declared.reply.Hold.TheVariants.{AddLink as AddLinkHold, ConfirmRkey as ConfirmRkeyHold}
 use Rattle.pipe_model.specs.declared.reply.Lack.{Lack}
-use Rattle.pipe_model.specs.declared.reply.Lack.TheVariants.{NotCapable, NoSubnet, NoServerElement, NoClientElement, NoSlot, GroupLost}
+use Rattle.pipe_model.specs.declared.reply.Lack.TheVariants.{NotCapable, NoSubnet, NoServerElement, NoClientElement}
 use Rattle.pipe_model.specs.declared.reply.SentKind.TheVariants.{ConfirmLink as LinkSent}
 use Rattle.pipe_model.specs.declared.reply.ResetCause.{ResetCause}
 use Rattle.pipe_model.specs.declared.event.End.{End}
@@ -53,7 +53,7 @@ use Rattle.world_core.proofs.Handshakes.{offer-of}
 use Rattle.world_core.proofs.Offers.{slots-up}
 use Rattle.world_core.proofs.PlayedWorlds.{played}
 use Rattle.world_core.proofs.TakenMessages.{is-taken, told-is, begun-with, live-with}
-use Rattle.world_core.proofs.Verdicts.{on-first}
+use Rattle.world_core.proofs.Verdicts.{on-first, rows, later-rows}
 
 -- whether a reply is that something is declined
 abbrev declines : Reply → Bool
@@ -167,16 +167,7 @@ key-step-not l lack e = by (is_asked l.key_flow) l.adding e
     by false false f = cc
 
 -- B declines a Proposal for its subnet or its elements
-abbrev proposal-rows : Lacks → Bool → Bool → Bool → Bool → Bool → Bool → Bool → ClcStep
-proposal-rows l far contact deleting none free no_slot unready =
-    if far then Decline NoSubnet else
-    if contact then Wait FirstContactHold else
-    if deleting then Wait DeleteRkeyHold else
-    if none then Decline (NoServerElement l.elements) else
-    if free then (if no_slot then Decline (NoSlot l.links) else SendAccept true) else
-    if unready then key_step l else SendAccept false
-
-proposal-lack : (l : Lacks) (lack : Lack) (far contact deleting none free no_slot unready : Bool) → no_slot ≡ false → proposal-rows l far contact deleting none free no_slot unready ≡ Decline lack
+proposal-lack : (l : Lacks) (lack : Lack) (far contact deleting none free no_slot unready : Bool) → no_slot ≡ false → rows l far contact deleting none free no_slot unready ≡ Decline lack
     → ((far ≡ true) × (NoSubnet ≡ lack)) ⊎ ((none ≡ true) × (NoServerElement l.elements ≡ lack))
 proposal-lack l lack true contact deleting none free no_slot unready n e = inl (refl, cc)
 proposal-lack l lack false true deleting none free no_slot unready n e = absurd (cc)
@@ -188,14 +179,7 @@ proposal-lack l lack false false false false false no_slot true n e = absurd (ke
 proposal-lack l lack false false false false false no_slot false n e = absurd (cc)
 
 -- A declines an Accept for its elements
-abbrev accept-rows : Offer → Lacks → Bool → Bool → Bool → Bool → ClcStep
-accept-rows o l lost deleting none unready =
-    if lost then Decline (GroupLost o.psn l.group) else
-    if deleting then Wait DeleteRkeyHold else
-    if none then Decline (NoClientElement l.elements) else
-    if unready then key_step l else SendConfirm false
-
-accept-lack : (o : Offer) (l : Lacks) (lack : Lack) (lost deleting none unready : Bool) → lost ≡ false → accept-rows o l lost deleting none unready ≡ Decline lack → (none ≡ true) × (NoClientElement l.elements ≡ lack)
+accept-lack : (o : Offer) (l : Lacks) (lack : Lack) (lost deleting none unready : Bool) → lost ≡ false → later-rows o l lost deleting none unready ≡ Decline lack → (none ≡ true) × (NoClientElement l.elements ≡ lack)
 accept-lack o l lack true deleting none unready n e = absurd (cc)
 accept-lack o l lack false true none unready n e = absurd (cc)
 accept-lack o l lack false false true unready n e = (refl, cc)

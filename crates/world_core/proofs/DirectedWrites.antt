@@ -1,5 +1,5 @@
 -- The writes of a batch go into the element that the peer offered, and stay so directed as the history grows.
-use Rattle.std.proofs.Common.{◌≡◌, ◌∙◌, ℕ, ◌+◌, ◌-◌, ◌%◌, ◌≤◌, ◌<◌, ◌==◌, Bool, true, false, if◌then◌else◌, List, [], ◌∷◌, ◌++◌, length, drop, filter_map, refl, ap, sym, subst, arith, suc, append_assoc, slice_get, length-append, nat_le, ◌||◌}
+use Rattle.std.proofs.Common.{◌≡◌, ◌∙◌, ℕ, ◌+◌, ◌-◌, ◌%◌, ◌≤◌, ◌<◌, ◌==◌, Bool, true, false, if◌then◌else◌, List, [], ◌∷◌, ◌++◌, length, drop, filter_map, refl, ap, sym, subst, arith, suc, append_assoc, slice_get, length-append, nat_le}
 use Rattle.std.specs.Prelude.{Option, Some, option_and_then, is_some}
 use Rattle.std.proofs.lemmas.Bool.{leb-true}
 use Rattle.std.proofs.lemmas.Nat.{pow_pos}
@@ -27,10 +27,7 @@ use Rattle.world_core.specs.WireSteps.{EachPlaced, EachPost}
 use Rattle.world_core.specs.Directed.{GoesHome, IsUnderWay, EachThen}
 use Rattle.world_core.proofs.AskedPosts.{IsControl}
 use Rattle.world_core.proofs.Carrying.{drop-none}
-
-or-true : (a b : Bool) → b ≡ true → (a || b) ≡ true
-or-true true b e = refl
-or-true false b e = e
+use Rattle.world_core.proofs.Plain.{or-true}
 
 -- what an entry has, and the entries before it
 get-suc : {X : Type 0} (x : X) (xs : List X) (i j : ℕ) → j ≡ suc i → slice_get (x ∷ xs) j ≡ slice_get xs i

@@ -1,25 +1,21 @@
 -- The one end that an entry makes act posts what is due to it.
 use Rattle.std.proofs.Common.{◌≡◌, ◌∙◌, ◌==◌, ℕ, Bool, true, false, not, if◌then◌else◌, List, [], ◌∷◌, ◌++◌, length, drop, reverse, flat_map, refl, ap, sym, subst, ◌&&◌, true≢false, eqb-true, ◌||◌, nat_lt}
-use Rattle.std.specs.Prelude.{Option, Some, None, is_some, option_map, option_and_then, option_to_list}
-use Rattle.std.specs.Option.{option_or}
+use Rattle.std.specs.Prelude.{Option, Some, None, is_some, option_map, option_to_list}
 use Rattle.std.proofs.Math.Seq.{drop-length, drop-append_seam}
 use Rattle.smc_num.specs.declared.Side.{Side}
 use Rattle.smc_num.specs.declared.Side.TheVariants.{A, B}
-use Rattle.smc_num.specs.declared.LinkId.{LinkId}
 use Rattle.smc_num.specs.Names.{other, same_side, head, has_link}
 use Rattle.pipe_model.specs.Snapshot.{tells_same}
 use Rattle.pipe_model.specs.Closing.{is_group_gone}
 use Rattle.pipe_model.specs.declared.setup.Setup.{Setup}
 use Rattle.pipe_model.specs.declared.event.Event.{Event}
 use Rattle.pipe_model.specs.declared.event.Event.TheVariants.{Open, Write, Read, Clc, Deliver, Complete}
-use Rattle.pipe_model.specs.declared.reply.Reply.{Reply}
 use Rattle.pipe_model.specs.declared.entry.Entry.{Entry}
 use Rattle.pipe_model.specs.Words.{element_size}
 use Rattle.pipe_model.specs.History.{Offered, offered}
-use Rattle.pipe_model.specs.Fabric.{act_by}
 use Rattle.pipe_model.specs.Ends.{Half, settle, is_due, batch, posts_batch, present}
 use Rattle.pipe_model.specs.Pipe.{Pipe, Terms, Item, Fate, GroupEnd, Up, Calls, Lands, Completes, half, pipe, apply, sent_since}
-use Rattle.pipe_model.specs.Connections.{fates, confirmed_by, comes_up, up_by, is_up, deeds, items, part, group_on, landed_at}
+use Rattle.pipe_model.specs.Connections.{fates, comes_up, is_up, deeds, items, part, group_on, landed_at}
 use Rattle.pipe_model.specs.Lending.{terms_of}
 use Rattle.pipe_model.specs.Posts.{sent_posts, end_posts, connection_posts}
 use Rattle.pipe_model.specs.Lawful.{draft}
@@ -36,6 +32,8 @@ use Rattle.world_core.proofs.Quiet.{all-spared}
 use Rattle.world_core.proofs.Senders.{rests, apply-sent}
 use Rattle.world_core.proofs.Batches.{f-spares, over, given-is, below-rests}
 use Rattle.world_core.proofs.OneSender.{Single, single, nowhere, all-of, rest-posts}
+use Rattle.world_core.proofs.Plain.{and-both, same-is}
+use Rattle.world_core.proofs.Rising.{comes_by}
 
 -- what one item makes an end post is what is due after it
 settled-since : (depth : ℕ) (h k : Half) → k.sent ≡ h.sent → sent_since h (settle depth k) ≡ due_of depth k
@@ -94,9 +92,6 @@ no-raise x (Fate y link phase) a = refl
 no-raise x (GroupEnd y) a = refl
 no-raise x (Lands y) a = refl
 no-raise x (Up y link) a = absurd (true≢false (sym a))
-
-abbrev comes_by : Side → ℕ → Event → Reply → List Entry → Option LinkId
-comes_by x s event reply past = option_or (up_by x s event reply past) (option_and_then (λ act. confirmed_by (offered B s past) act.link act.step) (act_by x event reply past))
 
 module _ (setup : Setup) (payload : List ℕ) (e : Entry) (past : List Entry) (before n : ℕ) (made : IsMade setup payload past before e) (played : IsPlayed setup payload past n)
     (offers : HasOffers setup past) (only : IsOnlyLink past) (go : GoesOn e past) (shaken : IsShaken setup past) (calm : (x : Side) → IsCalm x e past) where
@@ -173,16 +168,6 @@ module _ (setup : Setup) (payload : List ℕ) (e : Entry) (past : List Entry) (b
         ap (λ is. sent_since (half x (pipe T (P s))) (half x (pipe T (is ++ (Below s ++ P s))))) d ∙
         ap (λ ms. drop (length ms) (half x (pipe T (item ∷ (Below s ++ P s)))).sent) (sym (below-rests setup payload e past before n made played offers only go shaken calm x s (is_up x s past) refl)) ∙
         one-since T x item (Below s ++ P s) item-open ∙ due-same (is_up x s past) refl
-
-    same-is : (y z : Side) → same_side y z ≡ true → y ≡ z
-    same-is A A f = refl
-    same-is A B f = absurd (true≢false (sym f))
-    same-is B A f = absurd (true≢false (sym f))
-    same-is B B f = refl
-
-    and-both : (b c : Bool) → (b && c) ≡ true → (b ≡ true) × (c ≡ true)
-    and-both true c f = (refl, f)
-    and-both false c f = absurd (true≢false (sym f))
 
     abbrev Q : Type 0
     Q = Single setup payload e past before n made played offers only go shaken calm

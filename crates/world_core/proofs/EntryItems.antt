@@ -112,6 +112,15 @@ middle-none is js ks e = ap (λ (l : List Item). (is ++ l) ++ ks) e ∙ ap (λ (
 pub below-is : (group s : ℕ) (e : Entry) (past : List Entry) → GoesOn e past → below group s e past ≡ reverse (ups A s e past ++ ups B s e past) ++ reverse (fates A group e past ++ fates B group e past)
 below-is group s e past g = middle-none (reverse (ups A s e past ++ ups B s e past)) (reverse (group_end A group e past ++ group_end B group e past)) (reverse (fates A group e past ++ fates B group e past)) (no-ends group e past g)
 
+-- where no group ends and no link changes, establishments alone are left
+pub below-ups : (group s : ℕ) (e : Entry) (past : List Entry) (us : List Item) → ups A s e past ++ ups B s e past ≡ us → ((x : Side) → group_end x group e past ≡ []) → ((x : Side) → fates x group e past ≡ [])
+    → below group s e past ≡ reverse us ++ [] ++ []
+below-ups group s e past us up ends still =
+    ap (λ (is : List Item). reverse is ++ reverse (group_end A group e past ++ group_end B group e past) ++ reverse (fates A group e past ++ fates B group e past)) up
+    ∙ (ap (λ (is : List Item). reverse us ++ reverse (is ++ group_end B group e past) ++ reverse (fates A group e past ++ fates B group e past)) (ends A)
+    ∙ (ap (λ (is : List Item). reverse us ++ reverse is ++ reverse (fates A group e past ++ fates B group e past)) (ends B)
+    ∙ (ap (λ (is : List Item). reverse us ++ [] ++ reverse (is ++ fates B group e past)) (still A) ∙ ap (λ (is : List Item). reverse us ++ [] ++ reverse is) (still B))))
+
 -- it is fates and establishments
 pub below-calm : (group s : ℕ) (e : Entry) (past : List Entry) → GoesOn e past → EachItem is_fate_or_up (below group s e past)
 below-calm group s e past g =

@@ -1,5 +1,5 @@
 -- B takes the Confirm of later contact: its end hears the offer of A and is established, and posts what is due then.
-use Rattle.std.proofs.Common.{◌≡◌, ◌∙◌, ℕ, ◌<◌, ◌==◌, ◌||◌, not, Bool, true, false, if◌then◌else◌, List, [], ◌∷◌, ◌++◌, length, drop, filter_map, flat_map, reverse, refl, ap, sym, subst, eq-eqb, eqb-true, append-nil, arith}
+use Rattle.std.proofs.Common.{◌≡◌, ◌∙◌, ℕ, ◌<◌, ◌==◌, ◌||◌, not, Bool, true, false, if◌then◌else◌, List, [], ◌∷◌, ◌++◌, length, filter_map, flat_map, reverse, refl, ap, sym, subst, eq-eqb, eqb-true, append-nil, arith}
 use Rattle.std.specs.Prelude.{Option, Some, None, option_map, option_to_list, unwrap_or, slice_set, slice_index_or, is_some}
 use Rattle.std.specs.Option.{option_or}
 use Rattle.smc_num.specs.declared.Side.{Side}
@@ -24,7 +24,7 @@ use Rattle.pipe_model.specs.History.{Offered, offered}
 use Rattle.pipe_model.specs.Fabric.{peer, act_in, group_of}
 use Rattle.pipe_model.specs.Ends.{Half, is_due, batch, settle, comes_up}
 use Rattle.pipe_model.specs.Pipe.{Item, Up, GroupEnd, half, pipe, posts_of, sent_since}
-use Rattle.pipe_model.specs.Connections.{EndState, WaitsConfirm, IsUp, is_up, early_state, end_state, after_loss, named_link, group_on, ups, fates, fate_of, group_end, items, part, comes_up as comes_up_with}
+use Rattle.pipe_model.specs.Connections.{WaitsConfirm, IsUp, is_up, early_state, end_state, after_loss, named_link, group_on, ups, fates, fate_of, group_end, items, part, comes_up as comes_up_with}
 use Rattle.pipe_model.specs.Keys.{keys_of, book_of, last_bound, book_clc}
 use Rattle.pipe_model.specs.Lending.{Lending, lendings, lent, leaves_handshake, free_places, terms_of, lends_by}
 use Rattle.pipe_model.specs.Fallback.{Whole, front, is_raw}
@@ -45,15 +45,15 @@ use Rattle.world_core.specs.Played.{IsPlayed}
 use Rattle.world_core.specs.Agreement.{IsShaken}
 use Rattle.world_core.specs.Managers.{manager_of, desk_of, hand_of, conn_of, end_of, route_of, each_socket, lending_on, heard_on, awaits_confirm, keeps_element, HasLendings, lending_due}
 use Rattle.world_core.proofs.QuietEvents.{by-side, entry-of}
-use Rattle.world_core.proofs.QuietEntries.{one-fate, same-group, and-false}
+use Rattle.world_core.proofs.QuietEntries.{one-fate, same-group}
 use Rattle.world_core.proofs.DataPosts.{connections-data}
-use Rattle.world_core.proofs.EntryItems.{items-are}
+use Rattle.world_core.proofs.EntryItems.{items-are, below-ups}
 use Rattle.world_core.proofs.Parts.{part-open}
 use Rattle.world_core.proofs.PipePosts.{met}
 use Rattle.world_core.proofs.PipeSteps.{rests, sent-by}
 use Rattle.world_core.proofs.PlainPosts.{ArePlain, data-plain, offer-stays, lends-none, lendings-stay}
 use Rattle.world_core.proofs.StillEntries.{lent-stays, still-desk, keys-stay}
-use Rattle.world_core.proofs.SameManagers.{SameDesk, SameRoute, route_from, same-desk, same-conn, same-spare}
+use Rattle.world_core.proofs.SameManagers.{SameDesk, SameRoute, route_from, same-desk, same-conn, same-spare, hand-same}
 use Rattle.world_core.proofs.DuePosts.{last-known, known-key}
 use Rattle.world_core.proofs.KeptManagers.{by-parts}
 use Rattle.world_core.proofs.Lendings.{lendings-kept, lending-due}
@@ -61,6 +61,8 @@ use Rattle.world_core.proofs.LinkManagers.{rise}
 use Rattle.world_core.proofs.ConfirmManagers.{set-set, get-set}
 use Rattle.world_core.proofs.Tables.{same-sockets, set-socket, at-socket, sockets-long}
 use Rattle.world_core.proofs.TakenAlone.{IsTakenBy, taken-by}
+use Rattle.world_core.proofs.Plain.{if-same, and-false}
+use Rattle.std.proofs.Math.Seq.{drop-length}
 
 module _ (setup : Setup) (payload : List ℕ) (regions : List Buffer) (past : List Entry) (one : setup.links ≡ 1) (t0 s : ℕ) (world : IsWorld setup (LiveAtBoth t0) past) (lendings_are : HasLendings setup payload past) (actor n : ℕ) (posts : List Post)
     (known : s < setup.sockets) (o : Offer) (len : ℕ) (theirs_is : offered A s past ≡ on_link o) (named : named_link s past ≡ Some the_link) (first : o.first ≡ false) (rmb : rmb_at o.address ≡ 1) (state : end_state B s past ≡ WaitsConfirm) (down : is_up B s past ≡ false)
@@ -89,14 +91,7 @@ module _ (setup : Setup) (payload : List ℕ) (regions : List Buffer) (past : Li
   no-fates a ps y g = let l = world.link in ap (λ f. filter_map (fate_of y g (peer y f).table) (peer y f).table) l.fabric_is ∙ one-fate y g (LiveAtBoth t0)
 
   items-by : (a : ℕ) (ps : List Post) (g t : ℕ) (us : List Item) → ups B t (of-posts a ps) past ≡ us → items payload g t (of-posts a ps) past ≡ reverse us ++ [] ++ []
-  items-by a ps g t us u =
-      let q : Entry = of-posts a ps in
-      items-are payload g t q past
-      ∙ (ap (λ (us : List Item). reverse us ++ reverse (group_end A g q past ++ group_end B g q past) ++ reverse (fates A g q past ++ fates B g q past)) u
-      ∙ (ap (λ (gs : List Item). reverse us ++ reverse (gs ++ group_end B g q past) ++ reverse (fates A g q past ++ fates B g q past)) (no-end a ps A g)
-      ∙ (ap (λ (gs : List Item). reverse us ++ reverse gs ++ reverse (fates A g q past ++ fates B g q past)) (no-end a ps B g)
-      ∙ (ap (λ (fs : List Item). reverse us ++ [] ++ reverse (fs ++ fates B g q past)) (no-fates a ps A g)
-      ∙ ap (λ (fs : List Item). reverse us ++ [] ++ reverse fs) (no-fates a ps B g)))))
+  items-by a ps g t us u = items-are payload g t (of-posts a ps) past ∙ below-ups g t (of-posts a ps) past us u (λ y. no-end a ps y g) (λ y. no-fates a ps y g)
 
   items-here : (a : ℕ) (ps : List Post) (g : ℕ) → items payload g s (of-posts a ps) past ≡ Up B the_link ∷ []
   items-here a ps g = items-by a ps g s (Up B the_link ∷ []) (ap (λ q. option_to_list (option_map (Up B) q)) (up-here a ps))
@@ -127,10 +122,6 @@ module _ (setup : Setup) (payload : List ℕ) (regions : List Buffer) (past : Li
   acts-draft : (y : Side) → act_in y (of-posts 0 []) past ≡ None
   acts-draft = by-side (λ y. act_in y (of-posts 0 []) past ≡ None) refl refl
 
-  nothing-since : (ms : List SentMessage) → drop (length ms) ms ≡ []
-  nothing-since [] = refl
-  nothing-since (m ∷ ms) = nothing-since ms
-
   abbrev before : Side → ℕ → Half
   before y t = end_of setup payload y t past
 
@@ -146,12 +137,12 @@ module _ (setup : Setup) (payload : List ℕ) (regions : List Buffer) (past : Li
       ap (λ (ps : List Post). ps ++ end_posts setup payload B t (of-posts 0 []) past) (silent-end A t (none A)) ∙ silent-end B t (none B)
     where
       none : (y : Side) → posts_of (terms_of setup) y (items payload (group_on t past) t (of-posts 0 []) past) (part payload (group_on t past) t past) ≡ []
-      none y = given-by y t [] (items-else 0 [] (group_on t past) t d) ∙ (let h : Half = before y t in nothing-since h.sent)
+      none y = given-by y t [] (items-else 0 [] (group_on t past) t d) ∙ (let h : Half = before y t in drop-length h.sent)
 
   silent-a : end_posts setup payload A s (of-posts 0 []) past ≡ []
   silent-a = silent-end A s
       (given-by A s (Up B the_link ∷ []) (items-here 0 [] (group_on s past))
-      ∙ (ap (λ h. sent_since (before A s) h) (rests (terms_of setup) A (part payload (group_on s past) s past)) ∙ (let h : Half = before A s in nothing-since h.sent)))
+      ∙ (ap (λ h. sent_since (before A s) h) (rests (terms_of setup) A (part payload (group_on s past) s past)) ∙ (let h : Half = before A s in drop-length h.sent)))
 
   abbrev risen_end : Half
   risen_end = comes_up the_link (end_of setup payload B s past)
@@ -235,12 +226,8 @@ module _ (setup : Setup) (payload : List ℕ) (regions : List Buffer) (past : Li
     early-a : (t : ℕ) → early_state A t (e ∷ past) ≡ early_state A t past
     early-a t = ap (λ b. after_loss b (group_on t past) (early_state A t past)) (same-group (group_on t past) (group_of A past) (group_of A past) refl)
 
-    clc-none : (b : Bool) (st : EndState) → (if b then st else st) ≡ st
-    clc-none true st = refl
-    clc-none false st = refl
-
     early-b : (t : ℕ) → early_state B t (e ∷ past) ≡ early_state B t past
-    early-b t = ap (λ b. after_loss b (group_on t past) (if t == s then early_state B t past else early_state B t past)) (same-group (group_on t past) (group_of B past) (group_of B past) refl) ∙ clc-none (t == s) (early_state B t past)
+    early-b t = ap (λ b. after_loss b (group_on t past) (if t == s then early_state B t past else early_state B t past)) (same-group (group_on t past) (group_of B past) (group_of B past) refl) ∙ if-same (t == s) (early_state B t past)
 
     state-a : (t : ℕ) → end_state A t (e ∷ past) ≡ end_state A t past
     state-a t = ap (λ a. if is_up A t past then IsUp else a) (early-a t)
@@ -286,9 +273,6 @@ module _ (setup : Setup) (payload : List ℕ) (regions : List Buffer) (past : Li
         ∙ (ap (λ q. Some (record { route = route_from (named_link s past) true (lendings B past) (Some o) l; end = settle setup.depth (comes_up (unwrap_or q no_link) (end_of setup payload B s past)) })) (sym named)
         ∙ ap (λ q. option_map (rise setup.depth) (option_map aim q)) (sym conn-was)))))))
 
-    hand-by : (y : Side) (t : ℕ) → end_state y t (e ∷ past) ≡ end_state y t past → hand_of y (e ∷ past) t ≡ hand_of y past t
-    hand-by y t same = ap (λ a. let h : Hand = record { raw = is_raw t past; state = a } in h) same
-
     hand-s : hand_of B (e ∷ past) s ≡ record (hand_at s here) { state = after_confirm false }
     hand-s = ap (λ a. let h : Hand = record { raw = is_raw s past; state = a } in h) state-s ∙ ap (λ (h : Hand). let k : Hand = record h { state = IsUp } in k) (sym (at-socket (hand_of B past) setup.sockets s no_hand known))
 
@@ -304,7 +288,7 @@ module _ (setup : Setup) (payload : List ℕ) (regions : List Buffer) (past : Li
         (slice_set (slice_set conns0 s (option_map aim (slice_index_or conns0 s None))) s (option_map (rise setup.depth) (slice_index_or (slice_set conns0 s (option_map aim (slice_index_or conns0 s None))) s None)))
         (length (lendings B past)) (length (free_places setup payload B past))
         (same-desk setup payload B (e ∷ past) past (desk-now B))
-        (sym (set-socket (hand_of B past) (hand_of B (e ∷ past)) setup.sockets s (λ t d. hand-by B t (state-else t d))) ∙ ap (λ h. slice_set (each_socket (hand_of B past) setup.sockets) s h) hand-s)
+        (sym (set-socket (hand_of B past) (hand_of B (e ∷ past)) setup.sockets s (λ t d. hand-same B (e ∷ past) past t refl (state-else t d))) ∙ ap (λ h. slice_set (each_socket (hand_of B past) setup.sockets) s h) hand-s)
         (sym (set-socket (conn_of setup payload B past) (conn_of setup payload B (e ∷ past)) setup.sockets s
         (λ t d. same-conn setup payload B (e ∷ past) past t (route-by B t (up-b t d) (state-else t d)) (lendings-stay e past plain-now B) (lent-now B) (end-by B t [] (items-else actor posts (group_on t past) t d))))
         ∙ (ap (λ (c : Option (Connection Half)). slice_set conns0 s c) conn-s ∙ rises-new))
@@ -313,7 +297,7 @@ module _ (setup : Setup) (payload : List ℕ) (regions : List Buffer) (past : Li
     theirs-now : manager_of setup payload regions A (e ∷ past) ≡ manager_of setup payload regions A past
     theirs-now =
         by-parts setup payload regions A (e ∷ past) (desk_of setup payload A past) (each_socket (hand_of A past) setup.sockets) (each_socket (conn_of setup payload A past) setup.sockets) (length (lendings A past)) (length (free_places setup payload A past))
-        (same-desk setup payload A (e ∷ past) past (desk-now A)) (same-sockets (hand_of A (e ∷ past)) (hand_of A past) (λ t. hand-by A t (state-a t)) setup.sockets)
+        (same-desk setup payload A (e ∷ past) past (desk-now A)) (same-sockets (hand_of A (e ∷ past)) (hand_of A past) (λ t. hand-same A (e ∷ past) past t refl (state-a t)) setup.sockets)
         (same-sockets (conn_of setup payload A (e ∷ past)) (conn_of setup payload A past) (λ t. same-conn setup payload A (e ∷ past) past t (route-by A t refl (state-a t)) (lendings-stay e past plain-now A) (lent-now A) (end-a t)) setup.sockets)
         (ap (λ (ls : List Lending). length ls) (lendings-stay e past plain-now A)) (same-spare setup payload A (e ∷ past) past (lent-now A))
 

@@ -36,7 +36,7 @@ use Rattle.world_core.proofs.QuietEntries.{only-deeds, same-group}
 use Rattle.world_core.proofs.Parts.{part-open}
 use Rattle.world_core.proofs.PlainPosts.{ArePlain, offer-stays, lends-none, lendings-stay}
 use Rattle.world_core.proofs.StillEntries.{silent-pipes, end-stays, lent-stays, returns-by, still-desk}
-use Rattle.world_core.proofs.SameManagers.{SameDesk, SameRoute, same-desk, same-conn, same-spare}
+use Rattle.world_core.proofs.SameManagers.{SameDesk, SameRoute, same-desk, same-conn, same-spare, hand-same}
 use Rattle.world_core.proofs.KeptManagers.{by-parts}
 use Rattle.world_core.proofs.Lendings.{no-lending-due, lendings-kept}
 use Rattle.world_core.proofs.Tables.{same-sockets, set-socket, at-socket}
@@ -162,9 +162,6 @@ module _ (setup : Setup) (payload : List ℕ) (regions : List Buffer) (stage : S
   conn-theirs : (t : ℕ) → conn_of setup payload (other x) (e ∷ past) t ≡ conn_of setup payload (other x) past t
   conn-theirs t = same-conn setup payload (other x) (e ∷ past) past t (route-by (other x) t (state-theirs t)) (lendings-stay e past plain-now (other x)) lent-theirs (end-same (other x) t)
 
-  hand-by : (y : Side) (t : ℕ) → end_state y t (e ∷ past) ≡ end_state y t past → hand_of y (e ∷ past) t ≡ hand_of y past t
-  hand-by y t same = ap (λ a. let h : Hand = record { raw = is_raw t past; state = a } in h) same
-
   hand-here : hand_of x (e ∷ past) s ≡ record (hand_at s (manager_of setup payload regions x past)) { state = HasFallen }
   hand-here =
       ap (λ a. let h : Hand = record { raw = is_raw s past; state = a } in h) state-here
@@ -206,13 +203,13 @@ module _ (setup : Setup) (payload : List ℕ) (regions : List Buffer) (stage : S
         (slice_set (each_socket (hand_of x past) setup.sockets) s (record (hand_at s (manager_of setup payload regions x past)) { state = HasFallen }))
         (each_socket (conn_of setup payload x past) setup.sockets) (length (lendings x past)) (length (free_places setup payload x past))
         (same-desk setup payload x (e ∷ past) past desk-own)
-        (sym (set-socket (hand_of x past) (hand_of x (e ∷ past)) setup.sockets s (λ t d. hand-by x t (state-else t d))) ∙ ap (λ h. slice_set (each_socket (hand_of x past) setup.sockets) s h) hand-here)
+        (sym (set-socket (hand_of x past) (hand_of x (e ∷ past)) setup.sockets s (λ t d. hand-same x (e ∷ past) past t refl (state-else t d))) ∙ ap (λ h. slice_set (each_socket (hand_of x past) setup.sockets) s h) hand-here)
         (same-sockets (conn_of setup payload x (e ∷ past)) (conn_of setup payload x past) conn-own setup.sockets)
         (ap (λ (ls : List Lending). length ls) (lendings-stay e past plain-now x)) (same-spare setup payload x (e ∷ past) past lent-own);
     theirs = by-parts setup payload regions (other x) (e ∷ past) (desk_of setup payload (other x) past) (each_socket (hand_of (other x) past) setup.sockets)
         (each_socket (conn_of setup payload (other x) past) setup.sockets) (length (lendings (other x) past)) (length (free_places setup payload (other x) past))
         (same-desk setup payload (other x) (e ∷ past) past desk-theirs)
-        (same-sockets (hand_of (other x) (e ∷ past)) (hand_of (other x) past) (λ t. hand-by (other x) t (state-theirs t)) setup.sockets)
+        (same-sockets (hand_of (other x) (e ∷ past)) (hand_of (other x) past) (λ t. hand-same (other x) (e ∷ past) past t refl (state-theirs t)) setup.sockets)
         (same-sockets (conn_of setup payload (other x) (e ∷ past)) (conn_of setup payload (other x) past) conn-theirs setup.sockets)
         (ap (λ (ls : List Lending). length ls) (lendings-stay e past plain-now (other x))) (same-spare setup payload (other x) (e ∷ past) past lent-theirs);
     posts_are = made-posts;

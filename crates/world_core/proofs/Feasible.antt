@@ -12,14 +12,11 @@ use Rattle.pipe_model.specs.Parts.{has_swallow, swallows, is_swallowed, is_broke
 use Rattle.pipe_model.proofs.Facts.{is-marked}
 use Rattle.world_core.specs.Wired.{EachItem, returning}
 use Rattle.world_core.specs.Agreement.{CanBe}
+use Rattle.world_core.proofs.Plain.{or-right}
 
 or-left : (a b : Bool) → (a || b) ≡ false → a ≡ false
 or-left true b e = e
 or-left false b e = refl
-
-or-right : (a b : Bool) → (a || b) ≡ false → b ≡ false
-or-right true b e = absurd (true≢false e)
-or-right false b e = e
 
 or-both : (a b : Bool) → a ≡ false → b ≡ false → (a || b) ≡ false
 or-both a b e f = ap (λ c. c || b) e ∙ f

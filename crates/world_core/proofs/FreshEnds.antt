@@ -24,7 +24,6 @@ use Rattle.world_core.proofs.Handshaken.{gives-items, shaken}
 use Rattle.world_core.proofs.LinkFacts.{is_live_at, live-where-up}
 use Rattle.world_core.proofs.Own.{Is, IsNot, IsOrNot, is-or-not, own-none, own-some}
 use Rattle.world_core.proofs.Places.{first-stands, uncompleted-stand, unlanded-stand}
-use Rattle.world_core.proofs.QuietEntries.{and-false}
 use Rattle.world_core.proofs.QuietEvents.{by-side}
 use Rattle.world_core.specs.OneLink.{Asking, Begun, LiveAtA, LiveAtBoth, Made, NoLink, Stage, fabric_at, the_known, the_link}
 use Rattle.world_core.specs.Played.{IsBuilt, IsOneLink, IsPlayed}
@@ -44,6 +43,7 @@ use Rattle.world_core.specs.Wired.{cdc_under, cdcs, message, returning, EachItem
 use Rattle.world_core.specs.Agreement.{Agree, GivesItems}
 use Rattle.world_core.proofs.Agreement.{agrees}
 use Rattle.std.specs.List.{cons_option}
+use Rattle.world_core.proofs.Plain.{and-false}
 
 -- the links that a side knows: none, the link while it is pending, or the link while it is live
 data Held : Type 0 where

@@ -21,7 +21,7 @@ use Rattle.pipe_model.proofs.Parts.{both-after}
 use Rattle.world_core.specs.Wired.{EachItem, keeps_open, IsOpenEnd, IsOpenSent}
 use Rattle.world_core.specs.Landed.{GoOn}
 use Rattle.world_core.proofs.Growth.{either, settled-half}
-use Rattle.world_core.proofs.OpenEnds.{takes-open-is, completes-open-is, both-open, apply-open, BothOpen, each-head, MaySent}
+use Rattle.world_core.proofs.OpenEnds.{takes-open-is, completes-open-is, both-open, apply-open, BothOpen, each-head, MaySent, of-half}
 use Rattle.world_core.proofs.Follows.{follows}
 
 -- that messages go on from one count to another, and none tells less than the one before it
@@ -112,10 +112,6 @@ applied size A (Completes B) p k c o g = g
 applied size B (Completes A) p k c o g = g
 applied size B (Completes B) p k c o g = completed p.b c o.1 g
 
-open-of : (x : Side) (p : Pipe) → BothOpen p → IsOpenEnd (half x p)
-open-of A p o = o.0
-open-of B p o = o.1
-
 goes-up : (t : Terms) (x : Side) (items : List Item) → EachItem keeps_open items → IsFeasible t items → GoesUp (half x (pipe t items))
 goes-up t A [] k f = refl
 goes-up t B [] k f = refl
@@ -128,7 +124,7 @@ goes-up t x (item ∷ items) k f =
     let counts = w.0 in
     let flight = w.2 in
     subst (λ h. GoesUp h) (sym (settled-half t x item p))
-    (settled t.depth (half x (apply t.size item p)) (open-of x (apply t.size item p) (apply-open t.size item p k.0 o)) flight.within counts.last_out g)
+    (settled t.depth (half x (apply t.size item p)) (of-half x (apply t.size item p) (apply-open t.size item p k.0 o)) flight.within counts.last_out g)
 
 -- what stands before others that go on from a count tells no more
 up-split : (reach last count : ℕ) (xs ys : List Sent) → GoUp reach (xs ++ ys) last → GoOn count ys last → reach ≤ count

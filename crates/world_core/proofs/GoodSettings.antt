@@ -1,5 +1,5 @@
 -- What the test of the settings gives: each is in its range.
-use Rattle.std.specs.Prelude.{◌≡◌, ◌≤◌, ◌<◌, ℕ, ◌+◌, ◌*◌, ◌^◌, ◌&&◌, ◌==◌, nat_le, length, List, Bool, true, false, Option, None}
+use Rattle.std.specs.Prelude.{◌≡◌, ◌≤◌, ◌<◌, ℕ, ◌+◌, ◌*◌, ◌^◌, ◌==◌, nat_le, length, List, Bool, true, false, Option, None}
 use Rattle.std.proofs.Common.{refl, arith, eqb-true}
 use Rattle.std.proofs.lemmas.Bool.Decides.{nat_tests}
 use Rattle.smc_num.specs.declared.Side.{Side}
@@ -14,22 +14,16 @@ use Rattle.world_core.specs.declared.settings.Field.TheVariants.{Subnet, Links, 
 use Rattle.world_core.specs.Settings.{within, or_bad, bad_field, is_subnet, subnet_of}
 use Rattle.world_core.specs.Played.{IsOneLink}
 use Rattle.world_core.specs.Hosts.{IsWorldSet}
+use Rattle.world_core.proofs.Plain.{and-both}
+use Rattle.std.proofs.lemmas.Bool.{leb-true}
 
 -- a field in its range, and what comes after it
 passed : (field : Field) (value : ℕ) (good : Bool) (later : Option BadField) → or_bad field value good later ≡ None → (good ≡ true) × (later ≡ None)
 passed field value true later e = (refl, e)
 passed field value false later e = absurd (cc)
 
-both : (a b : Bool) → (a && b) ≡ true → (a ≡ true) × (b ≡ true)
-both true true e = (refl, refl)
-both true false e = absurd (cc)
-both false b e = absurd (cc)
-
 in-range : (low high n : ℕ) → within low high n ≡ true → (low ≤ n) × (n ≤ high)
-in-range low high n e = let b = both (nat_le low n) (nat_le n high) e in let l = b.0 in let h = b.1 in (grind (arith, nat_tests, l), grind (arith, nat_tests, h))
-
-at-most : (n high : ℕ) → nat_le n high ≡ true → n ≤ high
-at-most n high e = grind (arith, nat_tests, e)
+in-range low high n e = let b = and-both (nat_le low n) (nat_le n high) e in let l = b.0 in let h = b.1 in (grind (arith, nat_tests, l), grind (arith, nat_tests, h))
 
 -- the fields from one on
 abbrev from_bytes : Setup → Room → Option BadField
@@ -105,8 +99,8 @@ good setup room e =
     let some : 1 ≤ setup.depth = omega (arith, depth_is) in
     record {
       one = record { links = links_is; rmbs_a = rmbs_a_is; rmbs_b = rmbs_b_is; elements_a = ea.0; elements_b = eb.0; depth = some; number = n.0 };
-      set = sides (record { links = links_is; rmbs = rmbs_a_is; peers = rmbs_b_is; elements = ea.0; few = ea.1; size = at-most setup.size_code 5 size.0; depth = deep; number = n.0; most = most; sockets = s.1 })
-          (record { links = links_is; rmbs = rmbs_b_is; peers = rmbs_a_is; elements = eb.0; few = eb.1; size = at-most setup.size_code 5 size.0; depth = deep; number = n.0; most = most; sockets = s.1 });
+      set = sides (record { links = links_is; rmbs = rmbs_a_is; peers = rmbs_b_is; elements = ea.0; few = ea.1; size = leb-true setup.size_code 5 size.0; depth = deep; number = n.0; most = most; sockets = s.1 })
+          (record { links = links_is; rmbs = rmbs_b_is; peers = rmbs_a_is; elements = eb.0; few = eb.1; size = leb-true setup.size_code 5 size.0; depth = deep; number = n.0; most = most; sockets = s.1 });
       entries = r.1;
       bytes = t.1;
     }

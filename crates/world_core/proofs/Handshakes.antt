@@ -24,14 +24,12 @@ use Rattle.clc_wire.specs.declared.refusal.Refusal.{Refusal}
 use Rattle.world_core.specs.Sockets.{AcceptFallen, AcceptRefused, Accepted, AreOffers, AwaitsLink, Confirmed, Fallen, FirstAccepted, FirstConfirmed, IsOffer, Proposed, Refused, Socket, early_at, is_first, offered_at, on_link, untaken_at, up_at, Up}
 use Rattle.std.specs.Prelude.{List, None, Some, [], drop, false, filter_map, if◌then◌else◌, is_some, true, ℕ, ◌++◌, ◌==◌, ◌||◌, ◌∷◌}
 use Rattle.smc_num.specs.declared.Side.{Side}
+use Rattle.world_core.proofs.Plain.{some-is}
 
 -- the offers of a socket
 pub no-offers : (setup : Setup) (k : Socket) → offered_at k A ≡ None → offered_at k B ≡ None → AreOffers setup k
 no-offers setup k a b A o h = cc
 no-offers setup k a b B o h = cc
-
-some-is : (a b : Offered) → Some a ≡ Some b → a ≡ b
-some-is a b e = cc
 
 pub one-offer : (setup : Setup) (k : Socket) (o : Offer) → offered_at k A ≡ None → offered_at k B ≡ on_link o → IsOffer setup B (is_first k) o → AreOffers setup k
 one-offer setup k o a b i A q h = cc

@@ -31,6 +31,7 @@ use Rattle.world_core.proofs.Feasible.{has-returning, returning-head}
 use Rattle.world_core.proofs.Own.{grouped}
 use Rattle.world_core.proofs.Agreement.{agrees}
 use Rattle.world_core.proofs.Pipes.{offers-of, has-pipe}
+use Rattle.world_core.proofs.Plain.{and-left}
 
 -- what is on a wire is of that side and on that link
 module _ (link : LinkId) (x : Side) where
@@ -53,10 +54,6 @@ module _ (link : LinkId) (x : Side) where
   uncompleted-there [] = tt
   uncompleted-there (e ∷ past) = placed-append IsThere (drop (completing_now link x e past) (uncompleted link x past)) _ (placed-drop IsThere (completing_now link x e past) (uncompleted link x past) (uncompleted-there past))
       (placed-filter IsThere (λ c. completes_later c.post) (take (landing_now link x e past) (unlanded link x past)) (placed-take IsThere (landing_now link x e past) (unlanded link x past) (unlanded-there past)))
-
-  and-left : (a b : Bool) → (a && b) ≡ true → a ≡ true
-  and-left true b e = refl
-  and-left false b e = e
 
   -- so a CDC message is meant under its own token
   pub first-meant : (queue : List Placed) (c : Placed) (rest : List Placed) (from : Side) (l : LinkId) (m : CdcMessage) → EachPlaced IsThere queue → queue ≡ c ∷ rest → c.post ≡ Cdc from l m → cdc_under x m.token c.post ≡ Some m

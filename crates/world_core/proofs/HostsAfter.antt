@@ -27,12 +27,12 @@ use Rattle.world_core.specs.Managers.{manager_of, HasLendings}
 use Rattle.world_core.specs.Steps.{entry_of}
 use Rattle.world_core.specs.Sending.{acting_side, moved, carried_from, goes_on_wire, puts_one, puts_all, MaySendAll}
 use Rattle.world_core.specs.Hosts.{IsWorldSet, IsHostAfter, IsWireAfter, AreHostsAfter, with_posts}
-use Rattle.world_core.proofs.QuietEvents.{if-same}
 use Rattle.world_core.proofs.Sends.{same_length}
 use Rattle.world_core.proofs.AllLendings.{has-lendings}
 use Rattle.world_core.proofs.WiresAfter.{wire-theirs}
 use Rattle.world_core.proofs.OwnWires.{wire-own, room-own, may-send}
 use Rattle.world_core.proofs.StreamsAfter.{Flowing, own-flows}
+use Rattle.world_core.proofs.Plain.{if-same}
 
 -- nothing is nothing, on the latest link or on another one
 pub if-none : (past : List Entry) → if_latest the_link past 0 ≡ 0

@@ -30,8 +30,8 @@ use Rattle.world_core.specs.declared.moment.Moment.{Moment}
 use Rattle.std.proofs.lemmas.List.{length-reverse}
 use Rattle.world_core.proofs.QuietEvents.{entry-of}
 use Rattle.world_core.proofs.HostsAfter.{unposted, stands-on, may-after, room-after, streams-after, sent-after, kept-after}
-use Rattle.world_core.proofs.MovedWires.{twice}
 use Rattle.world_core.proofs.StreamsAfter.{Flowing}
+use Rattle.world_core.proofs.Plain.{twice}
 
 module _ (setup : Setup) (payload : List ℕ) (past : List Entry) (heard : ℕ) (event : Event) (h k : Host) (before : AreHostsAfter setup payload past heard (acting_side event) h k) (few : length past < 2 ^ 18)
     (built : IsBuilt setup (length payload) event) (lands : (y : Side) (reply : Reply) (posts : List Post) (actor : ℕ) → landing_now the_link y (entry-of actor event reply posts) past ≡ 0)

@@ -1,6 +1,6 @@
 -- A post that has just landed, case by case: a write, a CDC message, and CONFIRM LINK or the reply to it.
 use Rattle.std.proofs.Common.{◌≡◌, ◌∙◌, ℕ, ◌+◌, ◌<◌, ◌^◌, List, [], ◌∷◌, ◌++◌, length, map, take, drop, refl, ap, sym, subst}
-use Rattle.std.specs.Prelude.{Option, Some, None, unwrap_or}
+use Rattle.std.specs.Prelude.{Option, Some, None}
 use Rattle.smc_num.specs.declared.Side.{Side}
 use Rattle.smc_num.specs.declared.LinkId.{LinkId}
 use Rattle.smc_num.specs.Names.{other}
@@ -34,6 +34,7 @@ use Rattle.world_core.proofs.WriteEnds.{writing}
 use Rattle.world_core.proofs.OnWire.{landing-is, next-lands, never-clc, sent-by}
 use Rattle.world_core.proofs.LandingEntries.{write-told, lands-write}
 use Rattle.world_core.proofs.LandingsAfter.{one-lands, few-before, lent-now, quiet-landing}
+use Rattle.world_core.proofs.Plain.{some-is}
 
 module _ (at : Moment) (x : Side) (c : Carried) (h k : Host) (landed : HasLanded at x c h k) (few : length at.history.now < 2 ^ 18) where
   abbrev First : Host
@@ -128,12 +129,9 @@ module _ (at : Moment) (x : Side) (c : Carried) (h k : Host) (landed : HasLanded
               (stands (manager_of at.setup.now at.payload.now TheirRegions (other x) Past) 1 theirs.side w.bound);
         }
 
-    the-same : (a b : CdcMessage) → Some a ≡ Some b → a ≡ b
-    the-same a b e = ap (λ (q : Option CdcMessage). unwrap_or q a) e
-
     -- the message that follows
     named : (n : CdcMessage) → next_cdc (map (λ (d : Carried). d.post) h.wire.waiting) ≡ Some n → is-writing.m ≡ n
-    named n e = let w = is-writing in the-same w.m n (sym w.next ∙ e)
+    named n e = let w = is-writing in some-is w.m n (sym w.next ∙ e)
 
     pub some-follows : next_cdc (map (λ (d : Carried). d.post) h.wire.waiting) ≡ None → ⊥
     some-follows e = let w = is-writing in let none : None ≡ Some w.m = sym e ∙ w.next in cc

@@ -46,7 +46,7 @@ use Rattle.world_core.proofs.SoundEnds.{sound-at}
 use Rattle.world_core.proofs.OnWire.{next-lands, landing-is}
 use Rattle.world_core.proofs.LandingEntries.{message-told, lands-message, llc-told, lands-llc}
 use Rattle.world_core.proofs.LandingsAfter.{Taker, one-lands, few-before, lent-now, sent-landing, may-be-sent, has-room}
-use Rattle.world_core.proofs.MovedWires.{twice}
+use Rattle.world_core.proofs.Plain.{twice}
 
 -- what is known of a message that has landed: what becomes of the manager that takes it, what is posted, and what becomes of the sender's
 pub record IsTaking (at : Moment) (x : Side) (taken sent : Manager Half) (posts : List Post) : Type 0 where

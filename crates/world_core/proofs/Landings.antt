@@ -1,10 +1,8 @@
 -- An entry that lands a post leads to the next world: writes and CDC messages move nothing here, CONFIRM LINK and its reply make the link live.
 use Rattle.smc_num.specs.Links.{stands}
-use Rattle.pipe_model.specs.Fabric.{lands, act_in, fabric}
+use Rattle.pipe_model.specs.Fabric.{lands, fabric}
 use Rattle.pipe_model.specs.Wires.{landing}
 use Rattle.std.proofs.Common.{◌≡◌, ap, cond, inl, inr, refl, subst, sym, ◌∙◌}
-use Rattle.std.proofs.lemmas.Bool.{eqb-true}
-use Rattle.pipe_model.specs.Keys.{book_clc}
 use Rattle.pipe_model.specs.declared.event.Event.TheVariants.{Deliver}
 use Rattle.pipe_model.specs.declared.reply.Reply.TheVariants.{Landed, Dropped}
 use Rattle.pipe_model.specs.declared.post.Post.TheVariants.{Write, Cdc, Llc, Clc}
@@ -24,26 +22,13 @@ use Rattle.smc_num.specs.Links.{Known, link_at}
 use Rattle.pipe_model.specs.Wires.{if_latest, is_dead, landing_on, some_reported, unlanded}
 use Rattle.pipe_model.specs.declared.post.Placed.{Placed}
 use Rattle.world_core.specs.OneLink.{Asking, Begun, IsAtStage, LiveAtA, LiveAtBoth, Made, NoLink, Stage, fabric_at, is_made, llc_in, llc_of, llc_waiting, the_known, the_link}
-use Rattle.pipe_model.specs.Connections.{EndState, after_event, up_by}
 use Rattle.world_core.proofs.InHistory.{first-waiting-in}
 use Rattle.world_core.proofs.Moves.{IsQuiet}
 use Rattle.pipe_model.specs.History.{post_at}
-use Rattle.world_core.proofs.QuietEvents.{by-side, entry-of}
-use Rattle.smc_num.specs.Keys.{Key}
+use Rattle.world_core.proofs.QuietEvents.{entry-of, quiet-by}
+use Rattle.world_core.proofs.Plain.{link-is, some-is}
 
 -- the latest link of the slot is the only one
-same-link-is : (a : LinkId) → same_link a the_link ≡ true → a ≡ the_link
-same-link-is a e = by_parts (a.group == 1) (a.slot == 1) (a.incarnation == 1) refl refl refl e
-  where
-    by_parts : (g s i : Bool) → (a.group == 1) ≡ g → (a.slot == 1) ≡ s → (a.incarnation == 1) ≡ i → (g && (s && i)) ≡ true → a ≡ the_link
-    by_parts false s i x y z h = cc
-    by_parts true false i x y z h = cc
-    by_parts true true false x y z h = cc
-    by_parts true true true x y z h =
-        ap (λ n. let l : LinkId = record { group = n; slot = a.slot; incarnation = a.incarnation } in l) (eqb-true a.group 1 x)
-        ∙ (ap (λ n. let l : LinkId = record { group = 1; slot = n; incarnation = a.incarnation } in l) (eqb-true a.slot 1 y)
-        ∙ ap (λ n. let l : LinkId = record { group = 1; slot = 1; incarnation = n } in l) (eqb-true a.incarnation 1 z))
-
 latest-of : (link : LinkId) (table : List Known) → (table ≡ []) ⊎ (table ≡ the_known Pending ∷ []) → passes (same_link link) (link_at link.slot table) ≡ true → same_link link the_link ≡ true
 latest-of link table (inl e) h = let n : false ≡ true = ap (λ (ks : List Known). passes (same_link link) (link_at link.slot ks)) (sym e) ∙ h in cc
 latest-of link table (inr e) h = by_test (1 == link.slot) (ap (λ (ks : List Known). passes (same_link link) (link_at link.slot ks)) (sym e) ∙ h)
@@ -118,22 +103,16 @@ acts-none (Clc from s link m) e x past = refl
 -- the first that waits leaves, and is no LLC message
 first-goes : (cs : List Placed) (c : Placed) → head cs ≡ Some c → llc_of c.post ≡ None → filter_map llc_in (drop 1 cs) ≡ filter_map llc_in cs
 first-goes [] c e f = cc
-first-goes (d ∷ cs) c e f = let g : llc_of d.post ≡ None = ap (λ (q : Placed). llc_of q.post) (is d c e) ∙ f in ap (λ o. cons_option o (filter_map llc_in cs)) (sym g)
-  where
-    is : (d c : Placed) → Some d ≡ Some c → d ≡ c
-    is d c e = cc
+first-goes (d ∷ cs) c e f = let g : llc_of d.post ≡ None = ap (λ (q : Placed). llc_of q.post) (some-is d c e) ∙ f in ap (λ o. cons_option o (filter_map llc_in cs)) (sym g)
 
 -- or it is one
 pub first-llc : (cs : List Placed) (c : Placed) (p q : Post) (ps : List Post) → head cs ≡ Some c → llc_of c.post ≡ Some p → filter_map llc_in cs ≡ q ∷ ps → (p ≡ q) × (filter_map llc_in (drop 1 cs) ≡ ps)
 first-llc [] c p q ps e f g = cc
 first-llc (d ∷ cs) c p q ps e f g =
-    let h : llc_of d.post ≡ Some p = ap (λ (r : Placed). llc_of r.post) (is d c e) ∙ f in
+    let h : llc_of d.post ≡ Some p = ap (λ (r : Placed). llc_of r.post) (some-is d c e) ∙ f in
     let all : p ∷ filter_map llc_in cs ≡ q ∷ ps = ap (λ o. cons_option o (filter_map llc_in cs)) (sym h) ∙ g in
     (first all, rest all)
   where
-    is : (d c : Placed) → Some d ≡ Some c → d ≡ c
-    is d c e = cc
-
     first : p ∷ filter_map llc_in cs ≡ q ∷ ps → p ≡ q
     first e = cc
 
@@ -143,11 +122,8 @@ first-llc (d ∷ cs) c p q ps e f g =
 pub no-llc-first : (cs : List Placed) (c : Placed) (p : Post) → head cs ≡ Some c → llc_of c.post ≡ Some p → filter_map llc_in cs ≡ [] → ⊥
 no-llc-first [] c p e f g = cc
 no-llc-first (d ∷ cs) c p e f g =
-    let h : llc_of d.post ≡ Some p = ap (λ (r : Placed). llc_of r.post) (is d c e) ∙ f in
+    let h : llc_of d.post ≡ Some p = ap (λ (r : Placed). llc_of r.post) (some-is d c e) ∙ f in
     let all : p ∷ filter_map llc_in cs ≡ [] = ap (λ o. cons_option o (filter_map llc_in cs)) (sym h) ∙ g in cc
-  where
-    is : (d c : Placed) → Some d ≡ Some c → d ≡ c
-    is d c e = cc
 
 module _ (setup : Setup) (stage : Stage) (actor : ℕ) (older : List Entry) (at : IsAtStage setup stage older) (dir : Side) (c : Placed) (first : head (unlanded the_link dir older) ≡ Some c) where
   -- what waits of LLC messages once it has left
@@ -163,7 +139,7 @@ module _ (setup : Setup) (stage : Stage) (actor : ℕ) (older : List Entry) (at 
       by_latest : (b : Bool) → is_latest link older ≡ b → filter_map llc_in (drop (if b then (if same_side x dir && (link.slot == 1) then 1 else 0) else 0) (unlanded link x older)) ≡ llc_waiting link x older
       by_latest false e = refl
       by_latest true e =
-          let is : link ≡ the_link = same-link-is link (latest-is setup stage older at link e) in
+          let is : link ≡ the_link = link-is link the_link (latest-is setup stage older at link e) in
           subst (λ (l : LinkId). filter_map llc_in (drop (if same_side x dir && (l.slot == 1) then 1 else 0) (unlanded l x older)) ≡ llc_waiting l x older) (sym is) (on-the-link x dir first)
 
   -- it leaves, and what waits stays the same on all other links
@@ -179,64 +155,20 @@ pub quiet-landed : (setup : Setup) (stage : Stage) (actor : ℕ) (older : List E
     → IsQuiet (entry-of actor (Deliver 1 dir) (Landed c.at) []) older
 quiet-landed setup stage actor older A c at first none =
     let known : post_at c.at older ≡ Some c.post = first-waiting-in the_link A older c first in
-    record {
-      path = λ b. refl;
-      cuts_none = λ link. refl;
-      posts = refl;
-      fabric_is = ap (λ o. lands o B older (fabric older)) known ∙ lands-none c.post none B older (fabric older);
-      acts = by-side (λ x. act_in x (entry-of actor (Deliver 1 A) (Landed c.at) []) older ≡ None) refl (ap (λ o. act_of B o older) known ∙ acts-none c.post none B older);
-      up = by-side (λ x. (s : ℕ) → up_by x s (Deliver 1 A) (Landed c.at) older ≡ None) (λ s. refl) (λ s. refl);
-      early = by-side (λ x. (s : ℕ) (state : EndState) → after_event x s (Deliver 1 A) (Landed c.at) state ≡ state) (λ s state. refl) (λ s state. refl);
-      takes = λ x s. refl;
-      opened = λ s. refl;
-      raw = λ s. refl;
-      book = by-side (λ x. (b : List Key) → book_clc x (Deliver 1 A) (Landed c.at) older b ≡ b) (λ b. refl) (λ b. refl);
-      waiting = λ link x. leaves-data setup stage actor older at A c first none link x;
-    }
+    quiet-by actor older (Deliver 1 A) (Landed c.at) (λ b. refl) (λ link. refl) (ap (λ o. lands o B older (fabric older)) known ∙ lands-none c.post none B older (fabric older))
+    (record { acts = refl; up = λ s. refl; early = λ s state. refl; book = λ b. refl }) (record { acts = ap (λ o. act_of B o older) known ∙ acts-none c.post none B older; up = λ s. refl; early = λ s state. refl; book = λ b. refl })
+    (λ x s. refl) (λ s. refl) (λ s. refl) (λ link x. leaves-data setup stage actor older at A c first none link x)
 quiet-landed setup stage actor older B c at first none =
     let known : post_at c.at older ≡ Some c.post = first-waiting-in the_link B older c first in
-    record {
-      path = λ b. refl;
-      cuts_none = λ link. refl;
-      posts = refl;
-      fabric_is = ap (λ o. lands o A older (fabric older)) known ∙ lands-none c.post none A older (fabric older);
-      acts = by-side (λ x. act_in x (entry-of actor (Deliver 1 B) (Landed c.at) []) older ≡ None) (ap (λ o. act_of A o older) known ∙ acts-none c.post none A older) refl;
-      up = by-side (λ x. (s : ℕ) → up_by x s (Deliver 1 B) (Landed c.at) older ≡ None) (λ s. refl) (λ s. refl);
-      early = by-side (λ x. (s : ℕ) (state : EndState) → after_event x s (Deliver 1 B) (Landed c.at) state ≡ state) (λ s state. refl) (λ s state. refl);
-      takes = λ x s. refl;
-      opened = λ s. refl;
-      raw = λ s. refl;
-      book = by-side (λ x. (b : List Key) → book_clc x (Deliver 1 B) (Landed c.at) older b ≡ b) (λ b. refl) (λ b. refl);
-      waiting = λ link x. leaves-data setup stage actor older at B c first none link x;
-    }
+    quiet-by actor older (Deliver 1 B) (Landed c.at) (λ b. refl) (λ link. refl) (ap (λ o. lands o A older (fabric older)) known ∙ lands-none c.post none A older (fabric older))
+    (record { acts = ap (λ o. act_of A o older) known ∙ acts-none c.post none A older; up = λ s. refl; early = λ s state. refl; book = λ b. refl }) (record { acts = refl; up = λ s. refl; early = λ s state. refl; book = λ b. refl })
+    (λ x s. refl) (λ s. refl) (λ s. refl) (λ link x. leaves-data setup stage actor older at B c first none link x)
 
 pub quiet-dropped : (setup : Setup) (stage : Stage) (actor : ℕ) (older : List Entry) (dir : Side) (c : Placed) (token : ℕ) → IsAtStage setup stage older → head (unlanded the_link dir older) ≡ Some c → llc_of c.post ≡ None
     → IsQuiet (entry-of actor (Deliver 1 dir) (Dropped token) []) older
-quiet-dropped setup stage actor older A c token at first none = record {
-  path = λ b. refl;
-  cuts_none = λ link. refl;
-  posts = refl;
-  fabric_is = refl;
-  acts = by-side (λ x. act_in x (entry-of actor (Deliver 1 A) (Dropped token) []) older ≡ None) refl refl;
-  up = by-side (λ x. (s : ℕ) → up_by x s (Deliver 1 A) (Dropped token) older ≡ None) (λ s. refl) (λ s. refl);
-  early = by-side (λ x. (s : ℕ) (state : EndState) → after_event x s (Deliver 1 A) (Dropped token) state ≡ state) (λ s state. refl) (λ s state. refl);
-  takes = λ x s. refl;
-  opened = λ s. refl;
-  raw = λ s. refl;
-  book = by-side (λ x. (b : List Key) → book_clc x (Deliver 1 A) (Dropped token) older b ≡ b) (λ b. refl) (λ b. refl);
-  waiting = λ link x. leaves-data setup stage actor older at A c first none link x;
-}
-quiet-dropped setup stage actor older B c token at first none = record {
-  path = λ b. refl;
-  cuts_none = λ link. refl;
-  posts = refl;
-  fabric_is = refl;
-  acts = by-side (λ x. act_in x (entry-of actor (Deliver 1 B) (Dropped token) []) older ≡ None) refl refl;
-  up = by-side (λ x. (s : ℕ) → up_by x s (Deliver 1 B) (Dropped token) older ≡ None) (λ s. refl) (λ s. refl);
-  early = by-side (λ x. (s : ℕ) (state : EndState) → after_event x s (Deliver 1 B) (Dropped token) state ≡ state) (λ s state. refl) (λ s state. refl);
-  takes = λ x s. refl;
-  opened = λ s. refl;
-  raw = λ s. refl;
-  book = by-side (λ x. (b : List Key) → book_clc x (Deliver 1 B) (Dropped token) older b ≡ b) (λ b. refl) (λ b. refl);
-  waiting = λ link x. leaves-data setup stage actor older at B c first none link x;
-}
+quiet-dropped setup stage actor older A c token at first none =
+    quiet-by actor older (Deliver 1 A) (Dropped token) (λ b. refl) (λ link. refl) refl (record { acts = refl; up = λ s. refl; early = λ s state. refl; book = λ b. refl }) (record { acts = refl; up = λ s. refl; early = λ s state. refl; book = λ b. refl })
+    (λ x s. refl) (λ s. refl) (λ s. refl) (λ link x. leaves-data setup stage actor older at A c first none link x)
+quiet-dropped setup stage actor older B c token at first none =
+    quiet-by actor older (Deliver 1 B) (Dropped token) (λ b. refl) (λ link. refl) refl (record { acts = refl; up = λ s. refl; early = λ s state. refl; book = λ b. refl }) (record { acts = refl; up = λ s. refl; early = λ s state. refl; book = λ b. refl })
+    (λ x s. refl) (λ s. refl) (λ s. refl) (λ link x. leaves-data setup stage actor older at B c first none link x)

@@ -1,14 +1,13 @@
 -- With an entry that begins no lending and ends none, each socket has the lending that its state and its side's offer say, if it had before.
-use Rattle.pipe_model.specs.Fabric.{loses_group_with}
 use Rattle.pipe_model.specs.History.{Offered, offered}
 use Rattle.pipe_model.specs.declared.entry.Entry.{Entry}
 use Rattle.pipe_model.specs.declared.setup.Setup.{Setup}
 use Rattle.smc_num.specs.declared.Side.{Side}
 use Rattle.smc_num.specs.declared.Side.TheVariants.{A, B}
-use Rattle.std.proofs.Common.{Bool, List, [], ap, false, filter, filter_map, if◌then◌else◌, not, refl, sym, true, true≢false, ℕ, ◌++◌, ◌||◌, ◌∙◌, ◌∷◌, ◌≡◌}
+use Rattle.std.proofs.Common.{Bool, List, [], ap, false, filter, filter_map, if◌then◌else◌, not, refl, sym, true, true≢false, ℕ, ◌++◌, ◌∙◌, ◌∷◌, ◌≡◌}
 use Rattle.std.specs.Prelude.{None, Option, Some, is_some, option_map}
 use Rattle.world_core.proofs.Handshaken.{shaken}
-use Rattle.world_core.proofs.OpenEnds.{never-over}
+use Rattle.world_core.proofs.OpenEnds.{stays-out}
 use Rattle.world_core.proofs.Parts.{part-open}
 use Rattle.world_core.proofs.QuietEntries.{all-stay}
 use Rattle.world_core.specs.Managers.{HasLendings, keeps_element, lending_due, lending_on}
@@ -17,12 +16,10 @@ use Rattle.world_core.specs.Played.{IsOneLink, IsPlayed}
 use Rattle.world_core.specs.Sockets.{HasWorld, IsWorld, early_at, end_at, offered_at}
 use Rattle.world_core.specs.Sockets.{Socket, Unopened, Fallen, Proposed, Refused, FirstAccepted, FirstConfirmed, AwaitsLink, FirstUpAtA, FirstUp, Accepted, AcceptRefused, AcceptFallen, Confirmed, Up}
 use Rattle.world_core.proofs.LendingFacts.{found-lending, lends-for}
-use Rattle.pipe_model.specs.Connections.{EndState, HasFallen, end_state, early_state, part}
-use Rattle.pipe_model.specs.Ends.{is_over}
+use Rattle.pipe_model.specs.Connections.{EndState, HasFallen, end_state, early_state}
 use Rattle.world_core.proofs.PlayedWorlds.{played as has-world}
 use Rattle.world_core.proofs.LinkFacts.{no-group-ends-with}
-use Rattle.pipe_model.specs.Lending.{Lending, lends, lendings, lent, returns, leaves_handshake, pipe_of, terms_of}
-use Rattle.pipe_model.specs.Pipe.{half}
+use Rattle.pipe_model.specs.Lending.{Lending, lends, lendings, lent, returns, leaves_handshake}
 use Rattle.world_core.proofs.TakenMessages.{end-is}
 
 -- whether an end has fallen back
@@ -90,9 +87,8 @@ module _ (setup : Setup) (one : IsOneLink setup) (payload : List ℕ) (e : Entry
   returns-none x k =
       let v = before in
       let w = now in
-      ap (λ b. b || (loses_group_with x k.group e past || is_over (half x (pipe_of setup payload k.group k.s (e ∷ past))))) (stays x k.s)
-      ∙ (ap (λ b. b || is_over (half x (pipe_of setup payload k.group k.s (e ∷ past)))) (no-group-ends-with setup v.stage w.stage e past v.world w.world x k.group)
-      ∙ never-over (terms_of setup) x (part payload k.group k.s (e ∷ past)) (part-open setup payload k.group k.s (e ∷ past) n p (shaken setup one payload (e ∷ past) n p)))
+      stays-out setup payload e past x k (stays x k.s) (no-group-ends-with setup v.stage w.stage e past v.world w.world x k.group)
+      (part-open setup payload k.group k.s (e ∷ past) n p (shaken setup one payload (e ∷ past) n p))
 
   lent-same : (x : Side) → lent setup payload x (e ∷ past) ≡ lent setup payload x past
   lent-same x =

@@ -21,10 +21,10 @@ use Rattle.smc_num.specs.Places.{Place, rmb_at}
 use Rattle.smc_num.specs.declared.LinkId.{LinkId}
 use Rattle.smc_num.specs.declared.Side.{Side}
 use Rattle.smc_num.specs.declared.Side.TheVariants.{A, B}
-use Rattle.std.proofs.Common.{List, [], ap, arith, drop, eq-eqb, false, filter_map, flat_map, if◌then◌else◌, length, not, refl, reverse, subst, sym, ℕ, ◌++◌, ◌+◌, ◌<◌, ◌==◌, ◌∙◌, ◌∷◌, ◌≡◌}
+use Rattle.std.proofs.Common.{List, [], ap, arith, eq-eqb, false, filter_map, flat_map, if◌then◌else◌, length, not, refl, reverse, subst, sym, ℕ, ◌++◌, ◌+◌, ◌<◌, ◌==◌, ◌∙◌, ◌∷◌, ◌≡◌}
 use Rattle.std.specs.Option.{option_or}
 use Rattle.std.specs.Prelude.{None, Some, option_map, option_to_list, unwrap_or}
-use Rattle.world_core.proofs.EntryItems.{items-are}
+use Rattle.world_core.proofs.EntryItems.{items-are, below-ups}
 use Rattle.world_core.proofs.LaterManagers.{later-lendings, later-own, later-rests, later-theirs, later_entry, new-rests, new_end}
 use Rattle.world_core.proofs.LentRows.{free-place}
 use Rattle.world_core.proofs.Parts.{part-open}
@@ -54,6 +54,7 @@ use Rattle.pipe_model.specs.Posts.{new_offer, next_free, offered_place, connecti
 use Rattle.world_core.proofs.Offers.{IsFree, new-is-offer}
 use Rattle.pipe_model.specs.Messages.{offer, pair_on}
 use Rattle.pipe_model.specs.Fallback.{Whole, front}
+use Rattle.std.proofs.Math.Seq.{drop-length}
 
 -- what is known of the socket
 record IsJoining (setup : Setup) (s : ℕ) (past : List Entry) : Type 0 where
@@ -121,13 +122,7 @@ module _ (setup : Setup) (one : IsOneLink setup) (payload : List ℕ) (regions :
 
   items-by : (a : ℕ) (ps : List Post) (g t : ℕ) (us : List Item) → ups A t (of-posts a ps) past ≡ us → items payload g t (of-posts a ps) past ≡ reverse (us ++ []) ++ [] ++ []
   items-by a ps g t us u =
-      let q : Entry = of-posts a ps in
-      items-are payload g t q past
-      ∙ (ap (λ (us : List Item). reverse (us ++ []) ++ reverse (group_end A g q past ++ group_end B g q past) ++ reverse (fates A g q past ++ fates B g q past)) u
-      ∙ (ap (λ (gs : List Item). reverse (us ++ []) ++ reverse (gs ++ group_end B g q past) ++ reverse (fates A g q past ++ fates B g q past)) (no-end a ps A g)
-      ∙ (ap (λ (gs : List Item). reverse (us ++ []) ++ reverse gs ++ reverse (fates A g q past ++ fates B g q past)) (no-end a ps B g)
-      ∙ (ap (λ (fs : List Item). reverse (us ++ []) ++ [] ++ reverse (fs ++ fates B g q past)) (no-fates a ps A g)
-      ∙ ap (λ (fs : List Item). reverse (us ++ []) ++ [] ++ reverse fs) (no-fates a ps B g)))))
+      items-are payload g t (of-posts a ps) past ∙ below-ups g t (of-posts a ps) past (us ++ []) (ap (λ (is : List Item). is ++ []) u) (λ y. no-end a ps y g) (λ y. no-fates a ps y g)
 
   items-here : (a : ℕ) (ps : List Post) (g : ℕ) → items payload g s (of-posts a ps) past ≡ Up A the_link ∷ []
   items-here a ps g = items-by a ps g s (Up A the_link ∷ []) (ap (λ q. option_to_list (option_map (Up A) q)) (up-here a ps))
@@ -136,10 +131,6 @@ module _ (setup : Setup) (one : IsOneLink setup) (payload : List ℕ) (regions :
   items-else a ps g t d = items-by a ps g t [] (ap (λ q. option_to_list (option_map (Up A) q)) (up-else a ps t d))
 
   -- the pipes post nothing
-  nothing-since : (ms : List SentMessage) → drop (length ms) ms ≡ []
-  nothing-since [] = refl
-  nothing-since (m ∷ ms) = nothing-since ms
-
   abbrev before : Side → ℕ → Half
   before y t = end_of setup payload y t past
 
@@ -155,12 +146,12 @@ module _ (setup : Setup) (one : IsOneLink setup) (payload : List ℕ) (regions :
       ap (λ (qs : List Post). qs ++ end_posts setup payload B t (of-posts 0 ps) past) (silent-end ps A t (none A)) ∙ silent-end ps B t (none B)
     where
       none : (y : Side) → posts_of (terms_of setup) y (items payload (group_on t past) t (of-posts 0 ps) past) (part payload (group_on t past) t past) ≡ []
-      none y = given-by ps y t [] (items-else 0 ps (group_on t past) t d) ∙ (let h : Half = before y t in nothing-since h.sent)
+      none y = given-by ps y t [] (items-else 0 ps (group_on t past) t d) ∙ (let h : Half = before y t in drop-length h.sent)
 
   silent-b : (ps : List Post) → end_posts setup payload B s (of-posts 0 ps) past ≡ []
   silent-b ps = silent-end ps B s
       (given-by ps B s (Up A the_link ∷ []) (items-here 0 ps (group_on s past))
-      ∙ (ap (λ h. sent_since (before B s) h) (rests (terms_of setup) B (part payload (group_on s past) s past)) ∙ (let h : Half = before B s in nothing-since h.sent)))
+      ∙ (ap (λ h. sent_since (before B s) h) (rests (terms_of setup) B (part payload (group_on s past) s past)) ∙ (let h : Half = before B s in drop-length h.sent)))
 
   group-is : group_on s past ≡ 1
   group-is = let k = socket in ap (λ q. unwrap_or (option_map (λ (link : LinkId). link.group) q) 0) k.named

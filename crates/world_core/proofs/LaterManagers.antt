@@ -2,7 +2,6 @@
 -- established at once, and the manager of B stays as it is.
 use Rattle.clc_handshake.specs.Stages.{Hand}
 use Rattle.clc_wire.specs.declared.offer.Offer.{Offer}
-use Rattle.pipe_model.specs.Connections.{EndState}
 use Rattle.pipe_model.specs.Fabric.{loses_group_with, table_of}
 use Rattle.pipe_model.specs.Fallback.{is_raw}
 use Rattle.pipe_model.specs.History.{Offered, offered, offered_if}
@@ -20,21 +19,21 @@ use Rattle.side_core.specs.Posting.{batch_posts}
 use Rattle.side_core.specs.Taking.{hears, rises_at, starts}
 use Rattle.smc_num.specs.Links.{live_links}
 use Rattle.smc_num.specs.Names.{has_link, head, no_link, up_to}
-use Rattle.smc_num.specs.Places.{all_places, is_free, rmb_at, same_place}
+use Rattle.smc_num.specs.Places.{all_places, is_free, rmb_at}
 use Rattle.smc_num.specs.declared.LinkId.{LinkId}
 use Rattle.smc_num.specs.declared.Side.{Side}
 use Rattle.smc_num.specs.declared.Side.TheVariants.{A, B}
-use Rattle.std.proofs.Common.{Bool, List, [], ap, arith, cond, eq-eqb, eqb-true, false, filter, if◌then◌else◌, length, map, nat_lt, not, refl, subst, suc, sym, true, ℕ, ◌&&◌, ◌++◌, ◌+◌, ◌-◌, ◌<◌, ◌==◌, ◌||◌, ◌∙◌, ◌∷◌, ◌≡◌}
+use Rattle.std.proofs.Common.{Bool, List, [], ap, cond, eq-eqb, eqb-true, false, filter, if◌then◌else◌, length, map, nat_lt, not, refl, subst, sym, true, ℕ, ◌&&◌, ◌++◌, ◌+◌, ◌-◌, ◌<◌, ◌==◌, ◌||◌, ◌∙◌, ◌∷◌, ◌≡◌}
 use Rattle.std.specs.List.{cons_option}
 use Rattle.std.specs.Option.{option_or}
 use Rattle.std.specs.Prelude.{None, Option, Some, is_some, option_map, slice_index_or, slice_set, unwrap_or}
 use Rattle.world_core.proofs.KeptManagers.{by-parts}
-use Rattle.world_core.proofs.Lendings.{lending-due}
-use Rattle.world_core.proofs.OpenEnds.{never-over}
-use Rattle.world_core.proofs.QuietEntries.{all-stay, and-false}
+use Rattle.world_core.proofs.Lendings.{lending-due, due-same}
+use Rattle.world_core.proofs.OpenEnds.{stays-out}
+use Rattle.world_core.proofs.QuietEntries.{all-stay}
 use Rattle.world_core.proofs.QuietEvents.{by-side, entry-of}
-use Rattle.world_core.proofs.SameManagers.{conn_from, desk_from, route_from, rows_from, same-conn, same-spare}
-use Rattle.world_core.proofs.StartedRows.{epoch-here, epoch-stays, eqb-sym, free-of, next-is, not-of-free, rows-change, spare-less}
+use Rattle.world_core.proofs.SameManagers.{desk_from, rows_from, same-conn, same-spare, hand-same}
+use Rattle.world_core.proofs.StartedRows.{epoch-here, eqb-sym, next-is, rows-change, spare-less, conn-beside}
 use Rattle.world_core.proofs.Tables.{at-socket, same-sockets, set-socket, sockets-long}
 use Rattle.world_core.specs.Managers.{HasLendings, awaits_confirm, conn_of, desk_of, each_socket, end_of, epoch_in, first_on, hand_of, heard_on, keeps_element, lending_due, lending_on, manager_of, route_of, rows_of}
 use Rattle.world_core.specs.OneLink.{IsAtStage, LiveAtBoth, book_at, fabric_at, keys_at, the_link}
@@ -43,7 +42,7 @@ use Rattle.pipe_model.specs.declared.reply.Reply.TheVariants.{Established}
 use Rattle.pipe_model.specs.declared.post.Post.TheVariants.{Clc as ClcPost}
 use Rattle.pipe_model.specs.declared.event.Event.TheVariants.{Clc}
 use Rattle.clc_wire.specs.declared.message.ClcMessage.TheVariants.{Confirm as ConfirmMessage}
-use Rattle.pipe_model.specs.Ends.{Half, fresh, settle, is_due, comes_up, is_over}
+use Rattle.pipe_model.specs.Ends.{Half, fresh, settle, is_due, comes_up}
 use Rattle.pipe_model.specs.Pipe.{Item, Up, half, pipe}
 use Rattle.pipe_model.specs.Connections.{IsUp, WaitsConfirm, is_up, early_state, end_state, after_loss, named_link, group_on, items, part}
 use Rattle.element_ledger.specs.Lendings.{Row, changes_at, lends as lends_row, place_of}
@@ -52,6 +51,8 @@ use Rattle.world_core.proofs.PipeSteps.{rests}
 use Rattle.world_core.proofs.LinkManagers.{stage-desk, rise}
 use Rattle.side_core.specs.Records.{Connection, new_route}
 use Rattle.side_core.specs.Acting.{risen_at, risen_from}
+use Rattle.world_core.proofs.Plain.{if-same, and-false, plus-none}
+use Rattle.std.proofs.Math.Numerals.{add-one}
 
 -- the entry of a Confirm of later contact
 abbrev pub later_entry : ℕ → ℕ → Offer → Entry
@@ -90,10 +91,7 @@ module _ (setup : Setup) (payload : List ℕ) (regions : List Buffer) (past : Li
   stays = by-side (λ y. (t : ℕ) → leaves_handshake y t (Clc s B) Established ≡ false) (λ t. and-false (t == s)) (λ t. refl)
 
   returns-none : (y : Side) (k : Lending) → returns setup payload y e past k ≡ false
-  returns-none y k =
-      ap (λ b. b || (loses_group_with y k.group e past || is_over (half y (pipe_of setup payload k.group k.s (e ∷ past))))) (stays y k.s)
-      ∙ (ap (λ b. b || is_over (half y (pipe_of setup payload k.group k.s (e ∷ past)))) (no_loss y k.group)
-      ∙ never-over (terms_of setup) y (part payload k.group k.s (e ∷ past)) (open_items k.group k.s))
+  returns-none y k = stays-out setup payload e past y k (stays y k.s) (no_loss y k.group) (open_items k.group k.s)
 
   lent-a : lent setup payload A (e ∷ past) ≡ l ∷ lent setup payload A past
   lent-a = ap (λ (ls : List Lending). l ∷ ls) (all-stay (λ k. not (returns setup payload A e past k)) (lent setup payload A past) (λ k. ap (λ b. not b) (returns-none A k)))
@@ -103,9 +101,6 @@ module _ (setup : Setup) (payload : List ℕ) (regions : List Buffer) (past : Li
 
   rows-a : rows_of setup payload A (e ∷ past) ≡ map (changes_at (offered_place o) (lends_row s)) (rows_of setup payload A past)
   rows-a = ap (λ (ls : List Lending). rows_from setup A (l ∷ lendings A past) ls) lent-a ∙ rows-change l (lendings A past) (lent setup payload A past) (all_places (rmbs_of setup A) (elements_of setup A))
-
-  plus-none : (n : ℕ) → n + 0 ≡ n
-  plus-none n = omega arith
 
   -- no queue pair is made
   pair-a : new_pair A e past ≡ 0
@@ -152,12 +147,8 @@ module _ (setup : Setup) (payload : List ℕ) (regions : List Buffer) (past : Li
       ap (λ b. is_some (option_or (if b then named_link s past else None) None) || is_up A s past) (eq-eqb s s refl)
       ∙ ap (λ q. is_some (option_or (option_map (λ (p : Offered). p.link) q) None) || is_up A s past) theirs
 
-  clc-none : (b : Bool) (st : EndState) → (if b then st else st) ≡ st
-  clc-none true st = refl
-  clc-none false st = refl
-
   early-a : (t : ℕ) → early_state A t (e ∷ past) ≡ early_state A t past
-  early-a t = ap (λ b. after_loss b (group_on t past) (if t == s then early_state A t past else early_state A t past)) (no_loss A (group_on t past)) ∙ clc-none (t == s) (early_state A t past)
+  early-a t = ap (λ b. after_loss b (group_on t past) (if t == s then early_state A t past else early_state A t past)) (no_loss A (group_on t past)) ∙ if-same (t == s) (early_state A t past)
 
   early-b : (t : ℕ) → early_state B t (e ∷ past) ≡ early_state B t past
   early-b t = ap (λ b. after_loss b (group_on t past) (early_state B t past)) (no_loss B (group_on t past))
@@ -170,9 +161,6 @@ module _ (setup : Setup) (payload : List ℕ) (regions : List Buffer) (past : Li
 
   state-here : end_state A s (e ∷ past) ≡ IsUp
   state-here = ap (λ b. if b then IsUp else early_state A s (e ∷ past)) up-s
-
-  hand-by : (y : Side) (t : ℕ) → end_state y t (e ∷ past) ≡ end_state y t past → hand_of y (e ∷ past) t ≡ hand_of y past t
-  hand-by y t same = ap (λ a. let h : Hand = record { raw = is_raw t past; state = a } in h) same
 
   hand-here : hand_of A (e ∷ past) s ≡ record (hand_at s here) { state = IsUp }
   hand-here =
@@ -242,21 +230,9 @@ module _ (setup : Setup) (payload : List ℕ) (regions : List Buffer) (past : Li
 
   conn-else : (t : ℕ) → (t == s) ≡ false → conn_of setup payload A (e ∷ past) t ≡ conn_of setup payload A past t
   conn-else t d =
-      ap (λ b. conn_from t (named_link t past) b (l ∷ lendings A past) (heard_on A t (e ∷ past)) (end_of setup payload A t (e ∷ past)) (lent setup payload A (e ∷ past))) (up-a t d)
-      ∙ (ap (λ q. conn_from t (named_link t past) (is_up A t past) (l ∷ lendings A past) q (end_of setup payload A t (e ∷ past)) (lent setup payload A (e ∷ past))) (ap (λ st. if awaits_confirm st then None else option_map (λ (p : Offered). p.offer) (offered B t past)) (state-else t d))
-      ∙ (ap (λ h. conn_from t (named_link t past) (is_up A t past) (l ∷ lendings A past) (heard_on A t past) h (lent setup payload A (e ∷ past))) (end-by A t [] (items_else (group_on t past) t d))
-      ∙ (ap (λ q. option_map (λ k. let c : Connection Half = record { route = route_from (named_link t past) (is_up A t past) (l ∷ lendings A past) (heard_on A t past) k; end = end_of setup payload A t past } in c) q) (lending-else t d)
-      ∙ by (lending_on t (lent setup payload A past)) refl)))
-    where
-      by : (q : Option Lending) → lending_on t (lent setup payload A past) ≡ q
-          → option_map (λ k. let c : Connection Half = record { route = route_from (named_link t past) (is_up A t past) (l ∷ lendings A past) (heard_on A t past) k; end = end_of setup payload A t past } in c) q
-          ≡ option_map (λ k. let c : Connection Half = record { route = route_from (named_link t past) (is_up A t past) (lendings A past) (heard_on A t past) k; end = end_of setup payload A t past } in c) q
-      by None i = refl
-      by (Some m) i =
-          let f : is_free (lent_places (lent setup payload A past)) (offered_place o) ≡ true = free-of setup payload A past one (offered_place o) free in
-          let apart : same_place m.place (offered_place o) ≡ false = not-of-free t (offered_place o) (lent setup payload A past) m f i in
-          ap (λ n. Some (record { route = record { link = unwrap_or (named_link t past) no_link; up = is_up A t past; element = record { rmb = m.place.rmb; index = m.place.index; epoch = n }; token = m.token; peer = heard_on A t past }; end = end_of setup payload A t past }))
-          (epoch-stays l (lendings A past) (lent setup payload A past) m apart)
+      conn-beside setup payload A e past l one free refl t
+      (record { up = up-a t d; link = refl; heard = ap (λ st. if awaits_confirm st then None else option_map (λ (p : Offered). p.offer) (offered B t past)) (state-else t d) })
+      (end-by A t [] (items_else (group_on t past) t d)) (lending-else t d)
 
   heard-b : (t : ℕ) → heard_on B t (e ∷ past) ≡ heard_on B t past
   heard-b t = by (t == s) refl
@@ -275,10 +251,7 @@ module _ (setup : Setup) (payload : List ℕ) (regions : List Buffer) (past : Li
   spare-a = ap (λ (ls : List Lending). length (filter (is_free (lent_places ls)) (all_places (rmbs_of setup A) (elements_of setup A)))) lent-a ∙ spare-less setup payload A past one (offered_place o) free
 
   tokens-a : length (lendings A (e ∷ past)) ≡ length (lendings A past) + 1
-  tokens-a = plus (length (lendings A past))
-    where
-      plus : (n : ℕ) → suc n ≡ n + 1
-      plus n = omega arith
+  tokens-a = sym (add-one (length (lendings A past)))
 
   abbrev conns0 : List (Option (Connection Half))
   conns0 = each_socket (conn_of setup payload A past) setup.sockets
@@ -312,7 +285,7 @@ module _ (setup : Setup) (payload : List ℕ) (regions : List Buffer) (past : Li
       (slice_set conns2 s (option_map (rise setup.depth) (slice_index_or conns2 s None)))
       (length (lendings A past) + 1) (length (free_places setup payload A past) - 1)
       desk-a
-      (sym (set-socket (hand_of A past) (hand_of A (e ∷ past)) setup.sockets s (λ t d. hand-by A t (state-else t d))) ∙ ap (λ h. slice_set (each_socket (hand_of A past) setup.sockets) s h) hand-here)
+      (sym (set-socket (hand_of A past) (hand_of A (e ∷ past)) setup.sockets s (λ t d. hand-same A (e ∷ past) past t refl (state-else t d))) ∙ ap (λ h. slice_set (each_socket (hand_of A past) setup.sockets) s h) hand-here)
       (sym (set-socket (conn_of setup payload A past) (conn_of setup payload A (e ∷ past)) setup.sockets s conn-else) ∙ (ap (λ (k : Option (Connection Half)). slice_set conns0 s k) conn-here ∙ rises-new))
       tokens-a spare-a
 
@@ -326,22 +299,17 @@ module _ (setup : Setup) (payload : List ℕ) (regions : List Buffer) (past : Li
   pub later-theirs : manager_of setup payload regions B (e ∷ past) ≡ manager_of setup payload regions B past
   later-theirs =
       by-parts setup payload regions B (e ∷ past) (desk_of setup payload B past) (each_socket (hand_of B past) setup.sockets) (each_socket (conn_of setup payload B past) setup.sockets) (length (lendings B past)) (length (free_places setup payload B past))
-      desk-b (same-sockets (hand_of B (e ∷ past)) (hand_of B past) (λ t. hand-by B t (state-b t)) setup.sockets) (same-sockets (conn_of setup payload B (e ∷ past)) (conn_of setup payload B past) conn-b setup.sockets)
+      desk-b (same-sockets (hand_of B (e ∷ past)) (hand_of B past) (λ t. hand-same B (e ∷ past) past t refl (state-b t)) setup.sockets) (same-sockets (conn_of setup payload B (e ∷ past)) (conn_of setup payload B past) conn-b setup.sockets)
       refl (same-spare setup payload B (e ∷ past) past lent-b)
-
-  due-by : (y : Side) (t : ℕ) → end_state y t (e ∷ past) ≡ end_state y t past → offered y t (e ∷ past) ≡ offered y t past → lending_due y t (e ∷ past) ≡ lending_due y t past
-  due-by y t st of =
-      ap (λ st. if keeps_element st then option_map (λ (o : Offered). lends_by t o.link o.offer) (offered y t (e ∷ past)) else None) st
-      ∙ ap (λ q. if keeps_element (end_state y t past) then option_map (λ (o : Offered). lends_by t o.link o.offer) q else None) of
 
   -- each socket has its lending
   pub later-lendings : HasLendings setup payload (e ∷ past)
   later-lendings = record { each = by-side (λ y. (t : ℕ) → lending_on t (lent setup payload y (e ∷ past)) ≡ lending_due y t (e ∷ past)) (λ t. of_a t (t == s) refl) of_b }
     where
       of_b : (t : ℕ) → lending_on t (lent setup payload B (e ∷ past)) ≡ lending_due B t (e ∷ past)
-      of_b t = ap (λ (ls : List Lending). lending_on t ls) lent-b ∙ (lendings_are.each B t ∙ sym (due-by B t (state-b t) refl))
+      of_b t = ap (λ (ls : List Lending). lending_on t ls) lent-b ∙ (lendings_are.each B t ∙ sym (due-same B t (e ∷ past) past (state-b t) refl))
 
       of_a : (t : ℕ) (b : Bool) → (t == s) ≡ b → lending_on t (lent setup payload A (e ∷ past)) ≡ lending_due A t (e ∷ past)
       of_a t true i = subst (λ k. lending_on k (lent setup payload A (e ∷ past)) ≡ lending_due A k (e ∷ past)) (sym (eqb-true t s i))
           (lending-here ∙ sym (lending-due A s (e ∷ past) (record { link = the_link; offer = o }) offer-a (ap (λ st. keeps_element st) state-here)))
-      of_a t false d = lending-else t d ∙ (lendings_are.each A t ∙ sym (due-by A t (state-else t d) (offer-else t d)))
+      of_a t false d = lending-else t d ∙ (lendings_are.each A t ∙ sym (due-same A t (e ∷ past) past (state-else t d) (offer-else t d)))

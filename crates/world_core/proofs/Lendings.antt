@@ -30,6 +30,11 @@ pub lending-due : (x : Side) (s : ℕ) (past : List Entry) (o : Offered) → off
 lending-due x s past o e k =
     ap (λ b. if b then option_map (λ (o : Offered). lends_by s o.link o.offer) (offered x s past) else None) k ∙ ap (λ o. option_map (λ (o : Offered). lends_by s o.link o.offer) o) e
 
+pub due-same : (x : Side) (s : ℕ) (one two : List Entry) → end_state x s one ≡ end_state x s two → offered x s one ≡ offered x s two → lending_due x s one ≡ lending_due x s two
+due-same x s one two state offer =
+    ap (λ st. if keeps_element st then option_map (λ (o : Offered). lends_by s o.link o.offer) (offered x s one) else None) state
+    ∙ ap (λ q. if keeps_element (end_state x s two) then option_map (λ (o : Offered). lends_by s o.link o.offer) q else None) offer
+
 -- an entry that keeps lendings, offers and who is in the handshake or up
 pub lendings-kept : (setup : Setup) (payload : List ℕ) (e : Entry) (past : List Entry) → HasLendings setup payload past → ((x : Side) → lent setup payload x (e ∷ past) ≡ lent setup payload x past)
     → ((x : Side) (s : ℕ) → offered x s (e ∷ past) ≡ offered x s past) → ((x : Side) (s : ℕ) → keeps_element (end_state x s (e ∷ past)) ≡ keeps_element (end_state x s past)) → HasLendings setup payload (e ∷ past)

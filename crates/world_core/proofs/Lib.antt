@@ -110,6 +110,7 @@ pub mod PipePosts
 pub mod PipeSteps
 pub mod Pipes
 pub mod Places
+pub mod Plain
 pub mod PlainPosts
 pub mod PlainWires
 pub mod PlayedWorlds

@@ -66,12 +66,8 @@ first-socket (Asking t qp) = t
 first-socket (LiveAtA t qp) = t
 first-socket (LiveAtBoth t) = t
 
-then-it : (t : ℕ) (u v : Bool) → (if t == t then u else v) ≡ true → u ≡ true
-then-it t u v e = by_test (t == t) (eq-eqb t t refl) e
-  where
-    by_test : (b : Bool) → b ≡ true → (if b then u else v) ≡ true → u ≡ true
-    by_test true f h = h
-    by_test false f h = cc
+pub then-it : (t : ℕ) (u v : Bool) → (if t == t then u else v) ≡ true → u ≡ true
+then-it t u v e = sym (ap (λ c. if c then u else v) (eq-eqb t t refl)) ∙ e
 
 some-at-two : (k : Socket) → (first_step k == 2) ≡ true → (x : Side) → is_some (offered_at k x) ≡ true
 some-at-two (FirstConfirmed o p) e A = refl

@@ -36,7 +36,7 @@ use Rattle.world_core.proofs.Parts.{part-open}
 use Rattle.world_core.proofs.UpEnds.{pipe-is-up}
 use Rattle.world_core.proofs.PlainPosts.{ArePlain, offer-stays, lends-none, lendings-stay, pairs-stay, serial-stays, first-stays}
 use Rattle.world_core.proofs.StillEntries.{lent-stays}
-use Rattle.world_core.proofs.SameManagers.{desk_from, rows_from}
+use Rattle.world_core.proofs.SameManagers.{desk_from, rows_from, hand-same}
 use Rattle.world_core.proofs.Tables.{same-sockets, set-socket, at-socket}
 use Rattle.world_core.proofs.Lendings.{no-lending-due}
 use Rattle.world_core.proofs.Confirming.{Confirming, IsConfirming, IsWaiting, desk-lives, desk-other, group-stays, up-now, no-up-else, no-up-other, early-stays, items-first, is-waiting}
@@ -126,9 +126,7 @@ module _ {x : Side} {from to : Stage} {reply : Bool} (setup : Setup) (payload : 
   state-now = ap (λ b. if b then IsUp else early_state x (first_on x past) (e ∷ past)) is-up-now
 
   hand-by : (y : Side) (s : ℕ) → end_state y s (e ∷ past) ≡ end_state y s past → hand_of y (e ∷ past) s ≡ hand_of y past s
-  hand-by y s same =
-      ap (λ b. let h : Hand = record { raw = b; state = end_state y s (e ∷ past) } in h) (unraw s)
-      ∙ ap (λ a. let h : Hand = record { raw = is_raw s past; state = a } in h) same
+  hand-by y s same = hand-same y (e ∷ past) past s (unraw s) same
 
   pub own-hands : first_on x past < setup.sockets → each_socket (hand_of x (e ∷ past)) setup.sockets
       ≡ slice_set (each_socket (hand_of x past) setup.sockets) (first_on x past) (record (slice_index_or (each_socket (hand_of x past) setup.sockets) (first_on x past) no_hand) { state = IsUp })

@@ -41,6 +41,7 @@ use Rattle.world_core.proofs.PlayedWorlds.{played}
 use Rattle.world_core.proofs.Handshaken.{shaken, has-offers}
 use Rattle.world_core.proofs.Batched.{cdc_count, batched-all, Posts, posts-filter, queue}
 use Rattle.world_core.proofs.Counts.{queue-batched, few-waiting, all-under-way, sum-more, count_for, Known, counted}
+use Rattle.world_core.proofs.Plain.{and-left}
 
 -- posts that complete later have all the CDC messages
 later-by : (x : Side) (token : ℕ) (p : Post) (c : Placed) (cs ds : List Placed) → c.post ≡ p → cdcs x token ds ≡ cdcs x token cs → cdcs x token (cond (completes_later p) (c ∷ ds) ds) ≡ cons_option (cdc_under x token c.post) (cdcs x token cs)
@@ -71,10 +72,6 @@ none-in x (c ∷ cs) = (
 placed-both : (P Q : Placed → Type 0) (cs : List Placed) → EachPlaced P cs → EachPlaced Q cs → EachPlaced (λ c. P c × Q c) cs
 placed-both P Q [] p q = tt
 placed-both P Q (c ∷ cs) p q = ((p.0, q.0), placed-both P Q cs p.1 q.1)
-
-and-left : (a b : Bool) → (a && b) ≡ true → a ≡ true
-and-left true b e = refl
-and-left false b e = e
 
 -- messages that validate nothing are snapshots
 snapshots-all : (ms : List Sent) → EachOf IsOpenSent ms → length (snapshots ms) ≡ length ms

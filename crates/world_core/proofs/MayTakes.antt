@@ -36,7 +36,6 @@ use Rattle.side_core.specs.Desk.{Desk, made_on}
 use Rattle.side_core.specs.Records.{Connection, aimer, is_aimed_at}
 use Rattle.side_core.specs.Manager.{Manager, StandsFor, hand_at, state_at, no_hand}
 use Rattle.side_core.specs.Landing.{CanMake, is_wait}
-use Rattle.side_core.proofs.Allowed.{aimers_same, routes_same}
 use Rattle.conn_end.specs.Kept.{Kept}
 use Rattle.world_core.specs.Hosts.{IsWorldSet}
 use Rattle.world_core.specs.Managers.{manager_of, desk_of, hand_of, conn_of, end_of, route_of, records_of, each_socket, lending_on, heard_on, awaits_confirm, keeps_element, HasLendings}
@@ -51,7 +50,7 @@ use Rattle.world_core.proofs.ClcTaken.{link_of}
 use Rattle.side_core.specs.declared.route.Route.{Route}
 use Rattle.pipe_model.specs.Words.{passes}
 use Rattle.pipe_model.specs.Ends.{Half}
-use Rattle.pipe_model.specs.Messages.{serial, new_pair}
+use Rattle.pipe_model.specs.Messages.{serial}
 use Rattle.world_core.proofs.LinkManagers.{stage-desk}
 use Rattle.world_core.proofs.Lendings.{lending-due, no-lending-due}
 use Rattle.pipe_model.specs.declared.reply.Reply.TheVariants.{Sent, Established}
@@ -68,16 +67,11 @@ use Rattle.pipe_model.specs.declared.verdict.Lacks.{Lacks}
 use Rattle.world_core.specs.Played.{IsOneLink, IsPlayed, handed}
 use Rattle.world_core.proofs.TakenMessagesAll.{taken, taken-by-entry, idle}
 use Rattle.std.proofs.lemmas.Iterator.Adapters.{position_from-zero}
+use Rattle.world_core.proofs.Plain.{none-some}
+use Rattle.world_core.proofs.ClcFits.{serial-most}
+use Rattle.side_core.proofs.Carries.{take_kept}
 
 -- the counts are small
-serial-few : (x : Side) (past : List Entry) → serial x past ≤ length past
-serial-few x [] = omega arith
-serial-few x (e ∷ older) = by (new_pair x e older == 0) (serial-few x older)
-  where
-    by : (b : Bool) → serial x older ≤ length older → serial x older + (if b then 0 else 1) ≤ suc (length older)
-    by true h = omega (arith, h)
-    by false h = omega (arith, h)
-
 made-few : (stage : Stage) → slice_index_or (map (λ k. made_in k (fabric_at stage)) (up_to 1)) 0 0 ≤ 1
 made-few NoLink = omega arith
 made-few (Begun s) = omega arith
@@ -230,9 +224,6 @@ module _ (setup : Setup) (one : IsOneLink setup) (payload : List ℕ) (regions :
     at-link : (x : Side) (m : ClcMessage) (a b : LinkId) → a ≡ b → Hears x s m a → Hears x s m b
     at-link x m a b e g = subst (λ l. Hears x s m l) e g
 
-    none-there : (m : ClcMessage) → None ≡ Some m → ⊥
-    none-there m e = cc
-
     first-not : (k : Socket) → is_first k ≡ false → is_first k ≡ true → stage ≡ Begun s
     first-not k f e = absurd (true≢false (sym e ∙ f))
 
@@ -248,8 +239,8 @@ module _ (setup : Setup) (one : IsOneLink setup) (payload : List ℕ) (regions :
     hears-any (AcceptRefused o r) A m at suit first = with-message B (link_of A s past) (DeclineMessage r) m first (record { hears = tt; lends = tt })
     hears-any (Confirmed o c) A m at suit first =
         at-link B m the_link (link_of A s past) (on-offer (Confirmed o c) A c at refl) (with-message B the_link (ConfirmMessage c) m first (confirm-may (Confirmed o c) o c at refl refl refl))
-    hears-any k A m at suit first = absurd (none-there m first)
-    hears-any k B m at suit first = absurd (none-there m first)
+    hears-any k A m at suit first = absurd (none-some m first)
+    hears-any k B m at suit first = absurd (none-some m first)
 
     -- all of it for the plain manager
     plain-may : (few : length past ≤ 2 ^ 18) (dir : Side) → expects (end_state (other dir) s past) ≡ true → (m : ClcMessage) → head (untaken dir s past) ≡ Some m
@@ -260,7 +251,7 @@ module _ (setup : Setup) (one : IsOneLink setup) (payload : List ℕ) (regions :
         let l = world.link in
         let h = hears-any k.at dir m k.stands k.suits_is (ap (λ (ms : List ClcMessage). head ms) (sym (at.messages dir)) ∙ first) in
         let groups = few-groups setup stage past world.link in
-        let pairs = serial-few (other dir) past in
+        let pairs = serial-most (other dir) past in
         record {
           socket = subst (λ m. s < m) (sym (sockets-long (hand_of (other dir) past) setup.sockets)) known;
           waits = ap (λ (hand : Hand). expects hand.state) (at-socket (hand_of (other dir) past) setup.sockets s no_hand known) ∙ waits;
@@ -280,52 +271,6 @@ module _ (setup : Setup) (one : IsOneLink setup) (payload : List ℕ) (regions :
         made-low : (m : ℕ) → m ≡ slice_index_or (map (λ k. made_in k (fabric_at stage)) (up_to 1)) 0 0 → m < 2 ^ 31
         made-low m e = let few = made-few stage in omega (arith, e, few)
 
--- from the plain manager to the one that stands for it
-offer-kept : (o : Offer) (link : LinkId) (v : Manager Kept) (m : Manager Half) → StandsFor v m → IsOffer o link m → IsOffer o link v
-offer-kept o link v m stands offer =
-    let w = stands.works in
-    let r = w.records in
-    record {
-      slot = offer.slot;
-      group = offer.group;
-      named = offer.named;
-      rmb = offer.rmb;
-      index = offer.index;
-      token = offer.token;
-      within = subst (λ k. o.token ≤ k) (sym r.sockets) offer.within;
-      new = aimers_same o.token v.records m.records w.records ∙ offer.new;
-    }
-
-hear-kept : (s : ℕ) (message : ClcMessage) (link : LinkId) (v : Manager Kept) (m : Manager Half) → StandsFor v m → MayHear s message link m → MayHear s message link v
-hear-kept s (ProposalMessage p) link v m stands hears = tt
-hear-kept s (AcceptMessage o) link v m stands hears =
-    let w = stands.works in
-    (offer-kept o link v m stands hears.0, subst (λ (d : Desk). (o.first && (d.group == 0)) ≡ true → link.incarnation ≡ made_on link.slot d + 1) (sym w.desk) hears.1)
-hear-kept s (ConfirmMessage o) link v m stands hears =
-    let w = stands.works in
-    (offer-kept o link v m stands hears.0, ap (λ q. option_map (λ (r : Route). r.link) q) (routes_same s v.records m.records w.records) ∙ hears.1)
-hear-kept s (DeclineMessage r) link v m stands hears = tt
-
-lend-kept : (message : ClcMessage) (v : Manager Kept) (m : Manager Half) → StandsFor v m → MayLend message m → MayLend message v
-lend-kept (ProposalMessage p) v m stands lend = let w = stands.works in let r = w.records in subst (λ k. k < length v.records.by_socket) (sym r.tokens) (subst (λ k. m.records.tokens < k) (sym r.sockets) lend)
-lend-kept (AcceptMessage o) v m stands lend = let w = stands.works in let r = w.records in subst (λ k. k < length v.records.by_socket) (sym r.tokens) (subst (λ k. m.records.tokens < k) (sym r.sockets) lend)
-lend-kept (ConfirmMessage o) v m stands lend = tt
-lend-kept (DeclineMessage r) v m stands lend = tt
-
-take-kept : (s : ℕ) (message : ClcMessage) (link : LinkId) (paths : List Bool) (v : Manager Kept) (m : Manager Half) → StandsFor v m → MayTake s message link paths m → MayTake s message link paths v
-take-kept s message link paths v m stands may =
-    let w = stands.works in
-    record {
-      socket = subst (λ (hands : List Hand). s < length hands) (sym stands.hands) may.socket;
-      waits = ap (λ (hands : List Hand). expects (slice_index_or hands s no_hand).state) stands.hands ∙ may.waits;
-      hears = hear-kept s message link v m stands may.hears;
-      slots = may.slots;
-      tokens = lend-kept message v m stands may.tokens;
-      begun = subst (λ (d : Desk). d.begun < 2 ^ 31) (sym w.desk) may.begun;
-      serial = subst (λ (d : Desk). d.serial < 2 ^ 20) (sym w.desk) may.serial;
-      made = subst (λ (d : Desk). made_on 1 d < 2 ^ 31) (sym w.desk) may.made;
-    }
-
 -- a manager that stands for a plain one judges alike
 pub verdict-kept : (s : ℕ) (m : ClcMessage) (paths : List Bool) (v : Manager Kept) (plain : Manager Half) → StandsFor v plain → verdict_at s m paths v ≡ verdict_at s m paths plain
 verdict-kept s m paths v plain stands =
@@ -342,7 +287,7 @@ pub may-take : (setup : Setup) (payload : List ℕ) (set : IsWorldSet setup payl
     → MayTake s m (link_of dir s past) (paths_of past) v
 may-take setup payload set past n p few regions dir v stands s known waits m first =
     let w = has-world setup set.one payload past n p in
-    take-kept s m (link_of dir s past) (paths_of past) v (manager_of setup payload regions (other dir) past) stands
+    take_kept s m (link_of dir s past) (paths_of past) v (manager_of setup payload regions (other dir) past) stands
     (plain-may setup set.one payload regions past n p w.stage w.world s known few dir waits m first)
 
 -- the link may be made at B, where A confirms first contact

@@ -1,5 +1,5 @@
 -- The CDC message at the front of a wire is one that its end sent, told beside it plainly, and the manager at each side may take it.
-use Rattle.std.proofs.Common.{◌≡◌, ◌∙◌, ℕ, ◌-◌, ◌&&◌, ◌≤◌, ◌^◌, Bool, true, false, if◌then◌else◌, nat_lt, List, [], ◌∷◌, length, map, take, drop, zero, suc, refl, ap, sym, subst, true≢false, arith, ltb-true}
+use Rattle.std.proofs.Common.{◌≡◌, ◌∙◌, ℕ, ◌-◌, ◌≤◌, ◌^◌, Bool, true, false, if◌then◌else◌, nat_lt, List, [], ◌∷◌, length, map, take, drop, zero, suc, refl, ap, sym, subst, true≢false, arith, ltb-true}
 use Rattle.std.specs.Prelude.{Option, Some, None, is_some, option_map, unwrap_or}
 use Rattle.std.specs.List.{cons_option}
 use Rattle.smc_num.specs.declared.Side.{Side}
@@ -53,6 +53,7 @@ use Rattle.world_core.proofs.Handshaken.{shaken, has-offers}
 use Rattle.world_core.proofs.Pipes.{has-pipe}
 use Rattle.world_core.proofs.SoundEnds.{sound-at}
 use Rattle.world_core.proofs.EndRecords.{KeptBeside, UpConn, plain_conn, up-conn, plain-there, kept-there, holder-is}
+use Rattle.world_core.proofs.Plain.{and-left, same-is}
 
 -- the end of the peer of one that is up keeps its element
 peer-keeps : (k : Socket) (x : Side) → up_at k x ≡ true → keeps_element (end_at k (other x)) ≡ true
@@ -115,16 +116,6 @@ some-sent m ms i e f = nothing i (sym (ap (λ ns. head (drop i ns)) f) ∙ e)
 same-offer : (o : Option Offered) (a b : Offered) → o ≡ Some a → o ≡ Some b → a.offer.token ≡ b.offer.token
 same-offer o a b e f = ap (λ (p : Option Offered). unwrap_or (option_map (λ (r : Offered). r.offer.token) p) 0) (sym e ∙ f)
 
-side-is : (x y : Side) → same_side x y ≡ true → y ≡ x
-side-is A A e = refl
-side-is B B e = refl
-side-is A B e = absurd (true≢false (sym e))
-side-is B A e = absurd (true≢false (sym e))
-
-and-left : (a b : Bool) → (a && b) ≡ true → a ≡ true
-and-left true b e = refl
-and-left false b e = e
-
 -- at the connections of a socket
 the-same : (s t : ℕ) → Some s ≡ Some t → s ≡ t
 the-same s t e = ap (λ (q : Option ℕ). unwrap_or q s) e
@@ -165,7 +156,7 @@ module _ (setup : Setup) (payload : List ℕ) (set : IsWorldSet setup payload) (
       let on = subst (λ cs. EachPlaced (λ c. is_on the_link x c.post ≡ true) cs) q there in
       let at = subst (λ cs. EachPlaced (IsPlaced past) cs) q stands in
       let known = at.0 in
-      let side : from ≡ x = side-is x from (and-left (same_side x from) (same_link the_link l) (ap (λ post. is_on the_link x post) (sym e) ∙ on.0)) in
+      let side : from ≡ x = sym (same-is x from (and-left (same_side x from) (same_link the_link l) (ap (λ post. is_on the_link x post) (sym e) ∙ on.0))) in
       record { link = l; message = m; post = known.is ∙ (ap (λ q. Some q) e ∙ ap (λ y. Some (Cdc y l m)) side); offer = sp.offer; offered_is = sp.offered_is; token = sp.token }
 
   -- an end with a message under way is up

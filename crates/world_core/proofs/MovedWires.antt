@@ -7,10 +7,6 @@ use Rattle.pipe_model.specs.declared.event.Event.TheVariants.{Deliver, Complete}
 use Rattle.rc_link.specs.Wire.{Queues, landing, completing, with_landed, with_completed}
 use Rattle.world_core.specs.Sending.{moved}
 
-pub twice : (x : Side) → x ≡ other (other x)
-twice A = refl
-twice B = refl
-
 -- a delivery and a completion move the wire of their direction, and not the other
 pub deliver-own : (x : Side) (slot : ℕ) (w : Queues) → moved x (Deliver slot x) w ≡ with_landed (landing w) w
 deliver-own A slot w = refl

@@ -29,6 +29,7 @@ use Rattle.world_core.specs.OneLink.{Asking, Begun, IsAtStage, LiveAtA, LiveAtBo
 use Rattle.pipe_model.specs.Fabric.{Act, Fabric, act_in, after, fabric, flow_of, group_of, is_latest, loses_group_with, path_up, peer, sets_path, table_of}
 use Rattle.smc_num.specs.declared.Side.{Side}
 use Rattle.smc_num.specs.Names.{head, same_link}
+use Rattle.world_core.proofs.Plain.{and-false}
 
 -- what an entry does to the link
 pub record MovesLink (setup : Setup) (d : Entry) (older : List Entry) (from to : Stage) : Type 0 where
@@ -40,10 +41,6 @@ pub record MovesLink (setup : Setup) (d : Entry) (older : List Entry) (from to :
   pub book : (x : Side) → (if (peer x (fabric_at to)).group == 0 then [] else book_clc x d.event d.reply older (book_act (peer x (fabric_at from)).table (act_in x d older) (book_at x from))) ≡ book_at x to
   pub waiting : (x : Side) → filter_map llc_in (drop (if_latest the_link older (leaves x 1 d.event d.reply)) (unlanded the_link x older)) ++ posted_llc the_link x (next_number older) 1 d.posts ≡ waiting_at setup x to
   pub elsewhere : (link : LinkId) (x : Side) → same_link link the_link ≡ false → filter_map llc_in (drop (if_latest link older (leaves x link.slot d.event d.reply)) (unlanded link x older)) ++ posted_llc link x (next_number older) 1 d.posts ≡ []
-
-and-false : (b : Bool) → (b && false) ≡ false
-and-false true = refl
-and-false false = refl
 
 pub link-moves : (setup : Setup) (d : Entry) (older : List Entry) (from to : Stage) → MovesLink setup d older from to → IsAtStage setup from older → IsAtStage setup to (d ∷ older)
 link-moves setup d older from to m at = record {

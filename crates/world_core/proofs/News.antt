@@ -42,6 +42,7 @@ use Rattle.world_core.proofs.Agreement.{agrees}
 use Rattle.world_core.proofs.Agreed.{news-own}
 use Rattle.world_core.proofs.Follows.{follows, go-last}
 use Rattle.world_core.proofs.OnWay.{carries-append, carries-control, batch-own, batch-else, each-batch, filter-all, filter-none, each-filter}
+use Rattle.world_core.proofs.Plain.{some-is}
 
 pub each-last : (P : Sent → Type 0) (ms : List Sent) (m : Sent) → EachOf P (ms ++ m ∷ []) → P m
 each-last P [] m e = e.0
@@ -53,9 +54,6 @@ go-same r a b (m ∷ ms) g h = go-same m.snapshot.told a b ms g.1 h.1
 
 pub some-bytes : (setup : Setup) → 0 < element_size setup
 some-bytes setup = grind (arith, pow_pos)
-
-some-same : (a b : Offered) → Some a ≡ Some b → a ≡ b
-some-same a b e = cc
 
 map-none : (f : Sent → CdcMessage) (ms : List Sent) → [] ≡ map f ms → ms ≡ []
 map-none f [] e = refl
@@ -254,7 +252,7 @@ module _ (setup : Setup) (one : IsOneLink setup) (payload : List ℕ) (e : Entry
               let side : q.x ≡ x = side-is q.x i in
               let there : offered (other x) q.s past ≡ Some q.offer = subst (λ y. offered (other y) q.s past ≡ Some q.offer) side q.offered_is in
               let same : q.s ≡ s = sym (offers.tokens (other x) s q.s o q.offer f there (eqb-true o.offer.token q.offer.offer.token j)) in
-              own-goal q side same (some-same q.offer o (sym there ∙ ap (λ r. offered (other x) r past) same ∙ f))
+              own-goal q side same (some-is q.offer o (sym there ∙ ap (λ r. offered (other x) r past) same ∙ f))
 
           by : PostsFew setup payload D past → Goal
           by (inl i) = none-goal (none-more (ap (λ ps. filter_map (cdc_under x o.offer.token) ps) i)) (none-on (offered_place o.offer) o.offer.token Now.last.told i)

@@ -24,6 +24,7 @@ use Rattle.world_core.proofs.TakenMessages.{end-is}
 use Rattle.world_core.proofs.PlayedWorlds.{played}
 use Rattle.world_core.proofs.Handshaken.{shaken}
 use Rattle.world_core.proofs.Pipes.{has-pipe}
+use Rattle.world_core.proofs.Plain.{and-false}
 
 -- an end that no call closes stays open
 built-keeps : (setup : Setup) (m : ℕ) (x : Side) (s : ℕ) (event : Event) (reply : Reply) (phase : Phase) → IsBuilt setup m event → fallen_call x s event reply phase ≡ phase
@@ -40,10 +41,6 @@ own-open setup payload [] n p x s = refl
 own-open setup payload (e ∷ older) n p x s =
     let made = p.1 in
     built-keeps setup _ x s e.event e.reply (own_phase x s older) made.built ∙ own-open setup payload older p.0 p.3 x s
-
-and-false : (c : Bool) → (c && false) ≡ false
-and-false true = refl
-and-false false = refl
 
 pub fallen-open : (setup : Setup) (payload : List ℕ) (past : List Entry) (n : ℕ) → IsPlayed setup payload past n → (x : Side) (s : ℕ) → fallen_phase x s past ≡ Open
 fallen-open setup payload past n p x s =

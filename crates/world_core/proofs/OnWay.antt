@@ -1,14 +1,12 @@
 -- What a wire carries of the bytes of one end: what lands is next in its stream, and batches come behind.
 use Rattle.std.proofs.Common.{◌≡◌, ◌∙◌, ◌==◌, inl, inr, ℕ, ◌+◌, ◌-◌, ◌%◌, ◌<◌, ◌≤◌, Bool, true, false, if◌then◌else◌, List, [], ◌∷◌, ◌++◌, refl, ap, sym, subst, true≢false, arith, ◌/◌, ◌*◌, filter, nat_le, eqb-true, eq-eqb, leb-true, leb-false}
 use Rattle.std.proofs.lemmas.Nat.{div-add-mod', mod-mul-add, mod_below}
-use Rattle.smc_num.specs.declared.Side.TheVariants.{A, B}
 use Rattle.clc_wire.specs.declared.offer.Offer.{Offer}
 use Rattle.pipe_model.specs.Snapshot.{spelled, validation}
 use Rattle.pipe_model.specs.Posts.{writes, offered_place, cdc_posts}
-use Rattle.std.specs.Prelude.{Option, Some, None, is_some, cond}
+use Rattle.std.specs.Prelude.{Option, Some, is_some, cond}
 use Rattle.smc_num.specs.declared.Side.{Side}
 use Rattle.smc_num.specs.declared.LinkId.{LinkId}
-use Rattle.smc_num.specs.Names.{same_side}
 use Rattle.smc_num.specs.Places.{Place, address_of}
 use Rattle.cdc_wire.specs.declared.CdcMessage.{CdcMessage}
 use Rattle.pipe_model.specs.declared.post.Post.{Post}
@@ -18,13 +16,7 @@ use Rattle.world_core.specs.WireSteps.{EachPost}
 use Rattle.rc_link.specs.Wire.{next_cdc}
 use Rattle.world_core.specs.Landed.{carried, Carries}
 use Rattle.world_core.proofs.AskedPosts.{IsControl}
-
-some-is : (m n : CdcMessage) → Some m ≡ Some n → m ≡ n
-some-is m n e = ap (λ o. from o) e
-  where
-    from : Option CdcMessage → CdcMessage
-    from None = m
-    from (Some k) = k
+use Rattle.world_core.proofs.Plain.{same-self, some-is}
 
 next-append : (posts more : List Post) (m : CdcMessage) → next_cdc posts ≡ Some m → next_cdc (posts ++ more) ≡ Some m
 next-append [] more m e = absurd (true≢false (sym (ap (λ o. is_some o) e)))
@@ -32,13 +24,6 @@ next-append (Write from link key address len ∷ posts) more m e = next-append p
 next-append (Cdc from link n ∷ posts) more m e = e
 next-append (Llc from link n ∷ posts) more m e = next-append posts more m e
 next-append (Clc from s link n ∷ posts) more m e = next-append posts more m e
-
-same-self : (x : Side) → same_side x x ≡ true
-same-self A = refl
-same-self B = refl
-
-le-of : (a b : ℕ) → nat_le a b ≡ true → a ≤ b
-le-of a b e = leb-true a b e
 
 gt-of : (a b : ℕ) → nat_le a b ≡ false → b < a
 gt-of a b e = leb-false a b e
@@ -119,7 +104,7 @@ module _ (size : ℕ) (x : Side) (place : Place) (token : ℕ) where
       On m.from ((if a then [] else if b then Write x link key (address_of size place m.from) (m.snapshot.told - m.from) ∷ [] else Write x link key (address_of size place m.from) (size - m.from % size) ∷ Write x link key (address_of size place 0) (m.snapshot.told - m.from - (size - m.from % size)) ∷ []) ++ Cdc x link n ∷ []) (m ∷ []) m.snapshot.told
   batch-writes some link key n m t up near true b e f = batch-at m.from link n m t (eqb-true m.from m.snapshot.told e)
   batch-writes some link key n m t up near false true e f =
-      (n, refl, inl (t, refl, le-of (m.from % size + (m.snapshot.told - m.from)) size f, batch-at (m.from + (m.snapshot.told - m.from)) link n m t (omega (arith, up))))
+      (n, refl, inl (t, refl, leb-true (m.from % size + (m.snapshot.told - m.from)) size f, batch-at (m.from + (m.snapshot.told - m.from)) link n m t (omega (arith, up))))
   batch-writes some link key n m t up near false false e f =
       let r = next-round m.from some in
       let below = mod_below m.from size some in

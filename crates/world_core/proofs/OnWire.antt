@@ -2,7 +2,6 @@
 use Rattle.std.proofs.Common.{true≢false, ◌≡◌, ◌∙◌, ℕ, ◌&&◌, Bool, true, false, List, [], ◌∷◌, map, filter, take, drop, cond, refl, ap, sym, subst}
 use Rattle.std.specs.Prelude.{Option, Some, None, option_map}
 use Rattle.smc_num.specs.declared.Side.{Side}
-use Rattle.smc_num.specs.declared.Side.TheVariants.{A, B}
 use Rattle.smc_num.specs.declared.LinkId.{LinkId}
 use Rattle.smc_num.specs.Names.{same_side, same_link, head}
 use Rattle.clc_wire.specs.declared.message.ClcMessage.{ClcMessage}
@@ -23,6 +22,7 @@ use Rattle.world_core.specs.Hosts.{IsWireAfter}
 use Rattle.world_core.proofs.Heads.{unlanded-there, uncompleted-there}
 use Rattle.world_core.proofs.Places.{placed-append, placed-drop, unlanded-stand, uncompleted-stand, first-stands}
 use Rattle.world_core.proofs.WireMoves.{lands-first, completes-first, same-landing, same-completing}
+use Rattle.world_core.proofs.Plain.{and-left, same-is}
 
 -- the first of a queue
 pub record IsFirst (c : Carried) (queue : List Carried) : Type 0 where
@@ -36,16 +36,6 @@ first-in c (d ∷ cs) e = record { rest = cs; is = ap (λ q. q ∷ cs) (some-is 
     some-is : (d c : Carried) → Some d ≡ Some c → d ≡ c
     some-is d c e = cc
 
-same-side-is : (x y : Side) → same_side x y ≡ true → y ≡ x
-same-side-is A A e = refl
-same-side-is B B e = refl
-same-side-is A B e = absurd (true≢false (sym e))
-same-side-is B A e = absurd (true≢false (sym e))
-
-and-left : (a b : Bool) → (a && b) ≡ true → a ≡ true
-and-left true b e = refl
-and-left false b e = e
-
 and-right : (a b : Bool) → (a && b) ≡ true → b ≡ true
 and-right true b e = e
 and-right false b e = absurd (true≢false (sym e))
@@ -53,7 +43,7 @@ and-right false b e = absurd (true≢false (sym e))
 -- a post that is on the wire of a side
 module _ (x : Side) (c : Carried) (there : is_on the_link x c.post ≡ true) where
   pub sent-by : (post : Post) → c.post ≡ post → sender post ≡ x
-  sent-by post e = same-side-is x (sender post) (and-left (same_side x (sender post)) (passes (same_link the_link) (link_of_post post)) (ap (λ q. is_on the_link x q) (sym e) ∙ there))
+  sent-by post e = sym (same-is x (sender post) (and-left (same_side x (sender post)) (passes (same_link the_link) (link_of_post post)) (ap (λ q. is_on the_link x q) (sym e) ∙ there)))
 
   pub never-clc : (from : Side) (s : ℕ) (link : Option LinkId) (m : ClcMessage) → c.post ≡ Clc from s link m → ⊥
   never-clc from s link m e =

@@ -37,6 +37,7 @@ use Rattle.world_core.proofs.Own.{own-some, own-none, grouped, tokens-else}
 use Rattle.world_core.proofs.Heads.{Gave, gave}
 use Rattle.world_core.proofs.Senders.{rests}
 use Rattle.world_core.proofs.Batches.{given-none, given-few}
+use Rattle.world_core.proofs.Plain.{and-right, same-self}
 
 -- one batch is three posts at most
 few-writes : (a b : Bool) (p q r : Post) → length (if a then [] else if b then p ∷ [] else q ∷ r ∷ []) ≤ 2
@@ -57,10 +58,6 @@ few-sent size x o past m =
     few-by m.check _ _ (omega arith) (omega (arith, n, w))
 
 -- which items make the ends rest
-same-self : (x : Side) → same_side x x ≡ true
-same-self A = refl
-same-self B = refl
-
 call-rests : (y : Side) (t : ℕ) (end : End) (call : Call) (past : List Entry) → ((t == end.s) && same_side y end.side) ≡ false → EachItem (rests y) (call_on end call t past)
 call-rests y t end call past e = by (t == end.s) (is_up end.side t past) e
   where
@@ -114,15 +111,11 @@ module _ (setup : Setup) (payload : List ℕ) (e : Entry) (past : List Entry) (b
   token_in (Cdc from link m) = m.token
   token_in _ = 0
 
-  and-last : (a b : Bool) → (a && b) ≡ true → b ≡ true
-  and-last true b e = e
-  and-last false b e = absurd (true≢false (sym e))
-
   its-token : (d : Side) (token : ℕ) (post : Post) → is_cdc d token post ≡ true → token ≡ token_in post
   its-token d token (WritePost from link key address len) f = absurd (true≢false (sym f))
   its-token d token (Llc from link m) f = absurd (true≢false (sym f))
   its-token d token (ClcPost from s link m) f = absurd (true≢false (sym f))
-  its-token d token (Cdc from link m) f = eqb-true token m.token (and-last (same_side d from) (token == m.token) f)
+  its-token d token (Cdc from link m) f = eqb-true token m.token (and-right (same_side d from) (token == m.token) f)
 
   none-its : (d : Side) (t : ℕ) (l : CompletesNow the_link d e past) → ((s : ℕ) → IsElse (token_in l.first.post) (offered (other d) s past)) → (q : Option Offered) → offered (other d) t past ≡ q → if_own (Completes d) d t (Some l.first.at) past ≡ []
   none-its d t l f None g = own-none (Completes d) d t (Some l.first.at) past g

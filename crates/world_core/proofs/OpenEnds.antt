@@ -17,6 +17,11 @@ use Rattle.pipe_model.specs.Calls.{Call, Writes, Reads, Finishes, Closes, Aborts
 use Rattle.pipe_model.specs.Pipe.{Pipe, Terms, Item, Fate, GroupEnd, Up, Calls, Lands, Completes, half, pipe, apply}
 use Rattle.pipe_model.specs.Parts.{EachOf}
 use Rattle.world_core.specs.Wired.{IsOpenSnapshot, IsOpenSent, IsOpenEnd, EachShot, EachItem, keeps_open}
+use Rattle.pipe_model.specs.declared.setup.Setup.{Setup}
+use Rattle.pipe_model.specs.declared.entry.Entry.{Entry}
+use Rattle.pipe_model.specs.Lending.{Lending, leaves_handshake, returns, pipe_of, terms_of}
+use Rattle.pipe_model.specs.Fabric.{loses_group_with}
+use Rattle.pipe_model.specs.Connections.{part}
 
 -- lists
 pub each-append : (P : Sent → Type 0) (ms : List Sent) (m : Sent) → EachOf P ms → P m → EachOf P (ms ++ m ∷ [])
@@ -154,7 +159,7 @@ both-open t (item ∷ items) k =
     let q = apply-open t.size item (pipe t items) k.0 (both-open t items k.1) in
     (settle-open t.depth (apply t.size item (pipe t items)).a q.0, settle-open t.depth (apply t.size item (pipe t items)).b q.1)
 
-of-half : (x : Side) (p : Pipe) → BothOpen p → IsOpenEnd (half x p)
+pub of-half : (x : Side) (p : Pipe) → BothOpen p → IsOpenEnd (half x p)
 of-half A p o = o.0
 of-half B p o = o.1
 
@@ -163,3 +168,10 @@ half-open t x items k = of-half x (pipe t items) (both-open t items k)
 
 pub never-over : (t : Terms) (x : Side) (items : List Item) → EachItem keeps_open items → is_over (half x (pipe t items)) ≡ false
 never-over t x items k = open-not-over (half x (pipe t items)) (half-open t x items k)
+
+-- so a lending ends neither with its end nor with its group
+pub stays-out : (setup : Setup) (payload : List ℕ) (e : Entry) (past : List Entry) (x : Side) (l : Lending) → leaves_handshake x l.s e.event e.reply ≡ false → loses_group_with x l.group e past ≡ false
+    → EachItem keeps_open (part payload l.group l.s (e ∷ past)) → returns setup payload x e past l ≡ false
+stays-out setup payload e past x l stays kept calm =
+    ap (λ b. b || (loses_group_with x l.group e past || is_over (half x (pipe_of setup payload l.group l.s (e ∷ past))))) stays
+    ∙ (ap (λ b. b || is_over (half x (pipe_of setup payload l.group l.s (e ∷ past)))) kept ∙ never-over (terms_of setup) x (part payload l.group l.s (e ∷ past)) calm)

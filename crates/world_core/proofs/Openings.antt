@@ -23,7 +23,7 @@ use Rattle.pipe_model.specs.Fallback.{clc_in, is_name_used, is_opened, is_raw, t
 use Rattle.pipe_model.specs.Replies.{open_told}
 use Rattle.pipe_model.specs.Lawful.{asked}
 use Rattle.clc_wire.specs.declared.message.ClcMessage.{ClcMessage}
-use Rattle.world_core.proofs.ClcMoves.{AreApart, clc-is-apart, keeps-same, none-apart, plus-none}
+use Rattle.world_core.proofs.ClcMoves.{AreApart, clc-is-apart, keeps-same, none-apart}
 use Rattle.world_core.specs.Sockets.{Fallen, IsWorld, Proposed, Socket, StandsAt, Unopened, early_at, first_step, is_unoffered, offered_at, opened_at, suits, untaken_at, up_at}
 use Rattle.pipe_model.specs.Fabric.{act_in, peer}
 use Rattle.smc_num.specs.declared.LinkId.{LinkId}
@@ -39,6 +39,7 @@ use Rattle.world_core.specs.OneLink.{IsAtStage, Stage, book_at, fabric_at, group
 use Rattle.pipe_model.specs.Messages.{proposal}
 use Rattle.std.specs.Prelude.{Bool, List, None, [], drop, false, filter, filter_map, fold, if◌then◌else◌, is_some, length, not, slice_index_or, true, ℕ, ◌&&◌, ◌++◌, ◌+◌, ◌==◌, ◌||◌, ◌∷◌}
 use Rattle.world_core.specs.Lent.{Begins, BeginsNone, LeadsOn}
+use Rattle.world_core.proofs.Plain.{plus-none}
 
 -- a world whose link and sockets move with an entry
 pub world-moves : (setup : Setup) (d : Entry) (older : List Entry) (from to : Stage) → IsWorld setup from older → MovesLink setup d older from to → KeepsGroups from to

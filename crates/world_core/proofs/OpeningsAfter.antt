@@ -255,7 +255,3 @@ not-both false b e = refl
 pub first-fails : (a b : Bool) → a ≡ false → (a && b) ≡ false
 first-fails true b e = absurd (true≢false e)
 first-fails false b e = refl
-
-pub both-hold : (a b : Bool) → a ≡ true → b ≡ true → (a && b) ≡ true
-both-hold true b e f = f
-both-hold false b e f = e

@@ -26,6 +26,7 @@ use Rattle.pipe_model.specs.Posts.{writes, offered_place, cdc_posts, sent_posts,
 use Rattle.world_core.specs.Wired.{cdc_under, if_meant, message}
 use Rattle.world_core.specs.Agreement.{IsElse}
 use Rattle.world_core.specs.WireSteps.{IsCdcOn, EachPost}
+use Rattle.world_core.proofs.Plain.{same-self}
 
 -- lists
 pub filter_map-flat : {X Y Z : Type 0} (f : Y → Option Z) (g : X → List Y) (xs : List X) → filter_map f (flat_map g xs) ≡ flat_map (λ x. filter_map f (g x)) xs
@@ -79,10 +80,6 @@ no-cdc-choice x token false false one two e f = f
 
 no-cdc-writes : (x y : Side) (token size : ℕ) (link : LinkId) (key : ℕ) (place : Place) (from to : ℕ) → filter_map (cdc_under x token) (writes size y link key place from to) ≡ []
 no-cdc-writes x y token size link key place from to = no-cdc-choice x token (from == to) (nat_le (from % size + (to - from)) size) _ _ refl refl
-
-same-self : (x : Side) → same_side x x ≡ true
-same-self A = refl
-same-self B = refl
 
 meant-self : (x : Side) (token : ℕ) (link : LinkId) (m : CdcMessage) → m.token ≡ token → cdc_under x token (Cdc x link m) ≡ Some m
 meant-self x token link m e = ap (λ b. if_meant (b && (token == m.token)) m) (same-self x) ∙ ap (λ b. if_meant b m) (eq-eqb token m.token (sym e))

@@ -1,18 +1,17 @@
 -- What one item makes of each end of a pipe.
-use Rattle.std.proofs.Common.{◌≡◌, ◌∙◌, ℕ, ◌&&◌, not, nat_lt, Bool, true, false, if◌then◌else◌, List, [], ◌∷◌, ◌++◌, length, drop, refl, ap}
+use Rattle.std.proofs.Common.{◌≡◌, ◌∙◌, ℕ, Bool, true, false, if◌then◌else◌, List, [], ◌∷◌, ◌++◌, length, drop, refl, ap}
 use Rattle.std.proofs.Math.Seq.{drop-append_seam}
 use Rattle.smc_num.specs.declared.Side.{Side}
 use Rattle.smc_num.specs.declared.Side.TheVariants.{A, B}
 use Rattle.smc_num.specs.declared.LinkId.{LinkId}
 use Rattle.smc_num.specs.declared.LinkPhase.TheVariants.{Live as LiveLink}
-use Rattle.smc_num.specs.Names.{other, head, has_link}
-use Rattle.pipe_model.specs.Snapshot.{tells_same}
-use Rattle.pipe_model.specs.Closing.{is_group_gone}
+use Rattle.smc_num.specs.Names.{other, head}
 use Rattle.pipe_model.specs.declared.sent.Sent.{Sent}
-use Rattle.pipe_model.specs.Ends.{Half, comes_up, meets_fate, present, settle, is_due, posts_batch, batch, takes, completes, lands, to_land, to_complete}
+use Rattle.pipe_model.specs.Ends.{Half, comes_up, meets_fate, settle, is_due, posts_batch, batch, takes, completes, lands, to_land, to_complete}
 use Rattle.pipe_model.specs.Calls.{Call, calls}
 use Rattle.pipe_model.specs.Pipe.{Terms, Item, Up, Fate, Calls, Lands, Completes, half, pipe, sent_since}
 use Rattle.pipe_model.proofs.Settled.{nothing-due}
+use Rattle.world_core.proofs.Quiet.{not-due-down}
 
 -- nothing is due at the end of a part
 pub rests : (t : Terms) (x : Side) (items : List Item) → settle t.depth (half x (pipe t items)) ≡ half x (pipe t items)
@@ -52,11 +51,8 @@ module _ (t : Terms) (items : List Item) where
 
 -- the link goes live at the side of an end that is not established, which is so with it
 module _ (t : Terms) (items : List Item) (link : LinkId) where
-  not-due : (depth : ℕ) (h : Half) → h.up ≡ false → is_due depth h ≡ false
-  not-due depth h e = ap (λ b. (b && not (is_group_gone h.phase)) && (has_link h.link h.live && (nat_lt (length h.flight) depth && not (tells_same (present h) h.last)))) e
-
   hears : (depth : ℕ) (h : Half) → h.up ≡ false → settle depth (meets_fate link LiveLink h) ≡ meets_fate link LiveLink h
-  hears depth h e = ap (λ b. if b then posts_batch (meets_fate link LiveLink h) else meets_fate link LiveLink h) (not-due depth (meets_fate link LiveLink h) e)
+  hears depth h e = ap (λ b. if b then posts_batch (meets_fate link LiveLink h) else meets_fate link LiveLink h) (not-due-down depth (meets_fate link LiveLink h) e)
 
   pub risen : (x : Side) → (half x (pipe t items)).up ≡ false → half x (pipe t (Up x link ∷ Fate x link LiveLink ∷ items)) ≡ settle t.depth (comes_up link (meets_fate link LiveLink (half x (pipe t items))))
   risen A e = ap (λ h. settle t.depth (comes_up link h)) (hears t.depth (half A (pipe t items)) e)

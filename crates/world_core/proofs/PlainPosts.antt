@@ -1,5 +1,5 @@
 -- Posts that offer nothing and ask for no key: what the pipes post, CLC messages with no offer, and CONFIRM LINK with its reply.
-use Rattle.std.proofs.Common.{◌≡◌, ◌∙◌, ℕ, ◌+◌, ◌==◌, Bool, true, false, cond, if◌then◌else◌, List, [], ◌∷◌, ◌++◌, length, map, filter, filter_map, refl, ap, arith}
+use Rattle.std.proofs.Common.{◌≡◌, ◌∙◌, ℕ, ◌+◌, ◌==◌, Bool, true, false, cond, if◌then◌else◌, List, [], ◌∷◌, ◌++◌, length, map, filter, filter_map, refl, ap}
 use Rattle.std.specs.Prelude.{Option, Some, None, unwrap_or, fold}
 use Rattle.std.specs.List.{cons_option}
 use Rattle.std.specs.Option.{option_or}
@@ -30,6 +30,7 @@ use Rattle.pipe_model.specs.Posts.{begins_group_in, groups_begun}
 use Rattle.side_core.specs.Desk.{most_slots}
 use Rattle.world_core.specs.Views.{is_data, AreData}
 use Rattle.world_core.specs.Managers.{begins_on, first_on}
+use Rattle.world_core.proofs.Plain.{plus-none}
 
 -- whether an LLC message is CONFIRM LINK or the reply to it
 abbrev pub confirms : LlcMessage → Bool
@@ -162,9 +163,6 @@ skip-all f skips (p ∷ ps) a = ap (λ o. cons_option o (filter_map f ps)) (skip
 none-asked : (x : Side) (n : ℕ) → n ≡ 0 → at_side x 0 n ≡ 0
 none-asked A n e = refl
 none-asked B n e = e
-
-plus-none : (n : ℕ) → n + 0 ≡ n
-plus-none n = omega arith
 
 pub plain-pair : (x : Side) (event : Event) (reply : Reply) (ps : List Post) → ArePlain ps → first_pair x event reply ps ≡ 0
 plain-pair x event reply [] a = refl

@@ -1,5 +1,5 @@
 -- A CLC message that is posted with an entry is the one that waits to be taken after it, on a known socket of the side that acts.
-use Rattle.std.proofs.Common.{◌≡◌, ◌∙◌, ◌==◌, ℕ, ◌+◌, ◌<◌, ◌≤◌, true, if◌then◌else◌, List, [], ◌∷◌, ◌++◌, length, drop, filter_map, refl, ap, sym, subst, ◌&&◌, arith, append_assoc, length-append, eq-eqb}
+use Rattle.std.proofs.Common.{◌≡◌, ◌∙◌, ◌==◌, ℕ, ◌+◌, ◌<◌, ◌≤◌, if◌then◌else◌, List, [], ◌∷◌, ◌++◌, length, drop, filter_map, refl, ap, sym, subst, ◌&&◌, arith, append_assoc, length-append, eq-eqb}
 use Rattle.std.specs.Prelude.{Option, Some, None}
 use Rattle.std.specs.List.{cons_option}
 use Rattle.smc_num.specs.declared.Side.{Side}
@@ -18,6 +18,7 @@ use Rattle.world_core.specs.WireSteps.{EachPost}
 use Rattle.world_core.specs.Sending.{acting_side}
 use Rattle.world_core.proofs.PlayedWorlds.{played}
 use Rattle.world_core.proofs.PostsFrom.{IsSentBy, posts-from}
+use Rattle.world_core.proofs.Plain.{same-self}
 
 -- that a CLC message is on a known socket, and waits first there
 abbrev pub IsPosted : ℕ → Side → List Entry → Post → Type 0
@@ -51,10 +52,6 @@ only-first ms (k ∷ before) rest m e l =
     let a : length ms ≡ length ((k ∷ before) ++ m ∷ rest) = ap (λ ks. length ks) e in
     let b : length ((k ∷ before) ++ m ∷ rest) ≡ length (k ∷ before) + length (m ∷ rest) = length-append (k ∷ before) (m ∷ rest) in
     absurd (omega (arith, a, b, l))
-
-same-self : (x : Side) → same_side x x ≡ true
-same-self A = refl
-same-self B = refl
 
 found : (x from : Side) (s : ℕ) (link : Option LinkId) (m : ClcMessage) → from ≡ x → clc_in x s (Clc from s link m) ≡ Some m
 found x from s link m e = ap (λ y. if same_side x y && (s == s) then Some m else None) e ∙ (ap (λ b. if b && (s == s) then Some m else None) (same-self x) ∙ ap (λ b. if b then Some m else None) (eq-eqb s s refl))

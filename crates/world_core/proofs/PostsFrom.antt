@@ -1,5 +1,5 @@
 -- The posts of an entry come from the side that acts and go on the one link, and at most one CDC message is among them, the last.
-use Rattle.std.proofs.Common.{◌≡◌, ◌∙◌, ◌⊎◌, inl, inr, ℕ, ◌+◌, ◌-◌, ◌<◌, ◌≤◌, ◌==◌, ◌%◌, Bool, true, false, not, if◌then◌else◌, List, [], ◌∷◌, ◌++◌, length, take, drop, filter, filter_map, refl, ap, sym, subst, ◌&&◌, true≢false, arith, length-append, eqb-true}
+use Rattle.std.proofs.Common.{◌≡◌, ◌∙◌, ◌⊎◌, inl, inr, ℕ, ◌+◌, ◌-◌, ◌<◌, ◌≤◌, ◌==◌, ◌%◌, Bool, true, false, not, if◌then◌else◌, List, [], ◌∷◌, ◌++◌, length, take, drop, filter, filter_map, refl, ap, sym, subst, ◌&&◌, true≢false, arith, length-append}
 use Rattle.std.specs.Prelude.{Option, Some, None, is_some, nat_le, unwrap_or, cond}
 use Rattle.std.specs.List.{cons_option}
 use Rattle.std.proofs.lemmas.List.Elements.{filter_map-append}
@@ -49,6 +49,7 @@ use Rattle.world_core.proofs.Carrying.{same-link as link-self}
 use Rattle.world_core.proofs.PlayedWorlds.{played}
 use Rattle.world_core.proofs.Shaken.{only-link}
 use Rattle.world_core.proofs.Handshaken.{shaken, has-offers, one-batch, gives-items}
+use Rattle.world_core.proofs.Plain.{same-self, link-is}
 
 -- that a post comes from a side: on the one link, or on a known socket
 abbrev pub IsSentBy : ℕ → Side → Post → Type 0
@@ -161,23 +162,6 @@ right-none : (ps qs : List Post) → ps ++ qs ≡ [] → qs ≡ []
 right-none [] qs e = e
 right-none (p ∷ ps) qs e = absurd (true≢false (ap (λ rs. is_some (head rs)) e))
 
-same-self : (x : Side) → same_side x x ≡ true
-same-self A = refl
-same-self B = refl
-
--- the one link is named by its parts
-link-is : (a : LinkId) → same_link a the_link ≡ true → a ≡ the_link
-link-is a e = by_parts (a.group == 1) (a.slot == 1) (a.incarnation == 1) refl refl refl e
-  where
-    by_parts : (g s i : Bool) → (a.group == 1) ≡ g → (a.slot == 1) ≡ s → (a.incarnation == 1) ≡ i → (g && (s && i)) ≡ true → a ≡ the_link
-    by_parts false s i x y z h = cc
-    by_parts true false i x y z h = cc
-    by_parts true true false x y z h = cc
-    by_parts true true true x y z h =
-        ap (λ n. let l : LinkId = record { group = n; slot = a.slot; incarnation = a.incarnation } in l) (eqb-true a.group 1 x)
-        ∙ (ap (λ n. let l : LinkId = record { group = 1; slot = n; incarnation = a.incarnation } in l) (eqb-true a.slot 1 y)
-        ∙ ap (λ n. let l : LinkId = record { group = 1; slot = 1; incarnation = n } in l) (eqb-true a.incarnation 1 z))
-
 llc-there : (from : Side) (l : LinkId) → (same_side from from && same_link l l) ≡ true
 llc-there from l = ap (λ b. b && same_link l l) (same-self from) ∙ link-self l
 
@@ -192,7 +176,7 @@ llc-on entry first (p ∷ ps) f = (one p refl, llc-on entry (first + 1) ps (λ l
     one (Llc from l m) g = test (same_link l the_link) refl
       where
         test : (b : Bool) → same_link l the_link ≡ b → l ≡ the_link
-        test true h = link-is l h
+        test true h = link-is l the_link h
         test false h =
             let c : Placed = record { at = record { entry = entry; post = first }; post = p } in
             let rest : List Placed = filter (λ d. is_on l from d.post) (numbered entry (first + 1) ps) in

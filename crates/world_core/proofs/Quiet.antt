@@ -1,5 +1,5 @@
 -- Which items make an end post nothing: those of the other end, landings, and its own establishment.
-use Rattle.std.proofs.Common.{eq-eqb, ◌≡◌, ◌∙◌, ◌==◌, ℕ, ◌+◌, ◌≤◌, Bool, true, false, not, if◌then◌else◌, List, [], ◌∷◌, ◌++◌, length, drop, refl, ap, sym, subst, ◌||◌, ◌&&◌, true≢false, nat_lt, arith, length-append}
+use Rattle.std.proofs.Common.{eq-eqb, ◌≡◌, ◌∙◌, ◌==◌, ℕ, ◌+◌, ◌≤◌, Bool, true, false, not, if◌then◌else◌, List, [], ◌∷◌, ◌++◌, length, drop, refl, ap, sym, subst, ◌&&◌, true≢false, nat_lt, arith, length-append}
 use Rattle.std.specs.Prelude.{Option, Some, None, is_some}
 use Rattle.smc_num.specs.declared.Side.{Side}
 use Rattle.smc_num.specs.declared.Side.TheVariants.{A, B}
@@ -21,6 +21,7 @@ use Rattle.world_core.specs.Wired.{EachItem, keeps_open, IsOpenEnd, IsOpenSent}
 use Rattle.world_core.proofs.OpenEnds.{half-open, each-head, MaySent, takes-open-is}
 use Rattle.world_core.proofs.Growth.{either, settled-half}
 use Rattle.world_core.proofs.UpEnds.{raises, step-up, apply-up}
+use Rattle.world_core.proofs.Plain.{or-right}
 
 -- an end that is not due settles as it is
 settle-same : (depth : ℕ) (h : Half) → is_due depth h ≡ false → settle depth h ≡ h
@@ -173,11 +174,7 @@ own-apply size A (Completes B) p k c u = (refl, refl, refl)
 own-apply size B (Completes A) p k c u = (refl, refl, refl)
 own-apply size B (Completes B) p k c u = own-completes (head (to_complete p.b)) p.b
 
-or-none : (a b : Bool) → (a || b) ≡ false → b ≡ false
-or-none true b e = absurd (true≢false e)
-or-none false b e = e
-
-not-due-down : (depth : ℕ) (h : Half) → h.up ≡ false → is_due depth h ≡ false
+pub not-due-down : (depth : ℕ) (h : Half) → h.up ≡ false → is_due depth h ≡ false
 not-due-down depth h e = ap (λ b. (b && not (is_group_gone h.phase)) && (has_link h.link h.live && (nat_lt (length h.flight) depth && not (tells_same (present h) h.last)))) e
 
 first-untouched : (number : ℕ) → IsUntouched (fresh number)
@@ -188,7 +185,7 @@ untouched t A [] k c u = first-untouched t.number
 untouched t B [] k c u = first-untouched t.number
 untouched t x (item ∷ items) k c u =
     let p : Pipe = pipe t items in
-    let d : (half x p).up ≡ false = or-none (raises x item) (half x p).up (sym (step-up t x item p) ∙ u) in
+    let d : (half x p).up ≡ false = or-right (raises x item) (half x p).up (sym (step-up t x item p) ∙ u) in
     let a : (half x (apply t.size item p)).up ≡ false = apply-up t.size x item p ∙ sym (step-up t x item p) ∙ u in
     subst (λ h. IsUntouched h) (sym (settled-half t x item p ∙ settle-same t.depth (half x (apply t.size item p)) (not-due-down t.depth (half x (apply t.size item p)) a)))
     (untouched-by (half x p) (half x (apply t.size item p)) (own-apply t.size x item p k.0 c.0 d) (untouched t x items k.1 c.1 d))

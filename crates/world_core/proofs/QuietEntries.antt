@@ -1,6 +1,6 @@
 -- An entry that moves neither links nor sockets nor lendings: all that a side's manager keeps stays, its ends apart, and the items
 -- that it gives a connection are its deeds.
-use Rattle.std.proofs.Common.{◌≡◌, ◌∙◌, ℕ, ◌+◌, ◌==◌, ◌&&◌, ◌||◌, not, Bool, true, false, cond, if◌then◌else◌, List, [], ◌∷◌, ◌++◌, map, filter, filter_map, reverse, refl, ap, arith, append-nil}
+use Rattle.std.proofs.Common.{◌≡◌, ◌∙◌, ℕ, ◌+◌, ◌==◌, ◌&&◌, not, Bool, true, false, cond, if◌then◌else◌, List, [], ◌∷◌, ◌++◌, map, filter, filter_map, refl, ap, arith, append-nil}
 use Rattle.std.specs.Prelude.{None, option_map, option_and_then, option_to_list, unwrap_or}
 use Rattle.std.specs.Option.{option_or}
 use Rattle.smc_num.specs.declared.Side.{Side}
@@ -18,10 +18,9 @@ use Rattle.pipe_model.specs.declared.post.Post.TheVariants.{Write, Cdc, Llc, Clc
 use Rattle.pipe_model.specs.declared.entry.Entry.{Entry}
 use Rattle.pipe_model.specs.History.{Offered, offered}
 use Rattle.pipe_model.specs.Fabric.{Act, fabric, peer, group_of, table_of, act_in, loses_group_with}
-use Rattle.pipe_model.specs.Ends.{is_over}
 use Rattle.pipe_model.specs.Pipe.{Item, Up, GroupEnd, half, pipe}
 use Rattle.pipe_model.specs.Connections.{IsUp, group_on, is_up, early_state, end_state, up_by, confirmed_by, fate_of, fates, ups, group_end, deeds, items, part}
-use Rattle.pipe_model.specs.Lending.{Lending, lends, lent, returns, leaves_handshake, terms_of, pipe_of}
+use Rattle.pipe_model.specs.Lending.{Lending, lends, lent, returns, leaves_handshake, terms_of}
 use Rattle.pipe_model.specs.Messages.{asked_pair, pair_in, pair_number, first_pair, act_pair, new_pair, serial, pair_on}
 use Rattle.side_core.specs.Desk.{most_slots}
 use Rattle.world_core.specs.OneLink.{Stage, NoLink, Begun, Made, Asking, LiveAtA, LiveAtBoth, fabric_at}
@@ -29,11 +28,12 @@ use Rattle.world_core.specs.Sockets.{IsWorld}
 use Rattle.world_core.specs.Views.{is_data, AreData, ShowsSame}
 use Rattle.world_core.specs.Wired.{EachItem, keeps_open}
 use Rattle.world_core.specs.Managers.{begins_on, first_on, end_of, awaits_confirm}
-use Rattle.world_core.proofs.DataPosts.{by-data, shows-plus, unseen-filter_map}
+use Rattle.world_core.proofs.DataPosts.{by-data, shows-plus, unseen-filter_map, no-lending}
 use Rattle.world_core.proofs.Moves.{IsQuiet, shows-quiet}
-use Rattle.world_core.proofs.OpenEnds.{never-over}
-use Rattle.world_core.proofs.EntryItems.{below, items-are, same-items}
+use Rattle.world_core.proofs.OpenEnds.{stays-out}
+use Rattle.world_core.proofs.EntryItems.{below, items-are, same-items, below-ups}
 use Rattle.world_core.proofs.SameManagers.{SameDesk, SameSocket}
+use Rattle.world_core.proofs.Plain.{and-false}
 
 -- an entry without its posts
 abbrev pub bare : Entry → Entry
@@ -87,10 +87,6 @@ data-pair x event reply [] a = refl
 data-pair x event reply (p ∷ ps) a =
     ap (λ n. n + at_side x 0 (asked_pair event reply p)) (no-pair x p a.0) ∙ ap (λ n. 0 + n) (none-asked x (asked_pair event reply p) (no-asked event reply p a.0))
 
-no-lending : (x : Side) (p : Post) → is_data p ≡ true → lends x p ≡ None
-no-lending A = by-data (λ p. lends A p ≡ None) (λ from link key address len. refl) (λ from link m. refl)
-no-lending B = by-data (λ p. lends B p ≡ None) (λ from link key address len. refl) (λ from link m. refl)
-
 no-beginning : (x : Side) (p : Post) → is_data p ≡ true → begins_on x p ≡ None
 no-beginning A = by-data (λ p. begins_on A p ≡ None) (λ from link key address len. refl) (λ from link m. refl)
 no-beginning B = by-data (λ p. begins_on B p ≡ None) (λ from link key address len. refl) (λ from link m. refl)
@@ -101,10 +97,6 @@ all-stay f [] e = refl
 all-stay f (l ∷ ls) e = ap (λ b. cond b (l ∷ filter f ls) (filter f ls)) (e l) ∙ ap (λ ks. l ∷ ks) (all-stay f ls e)
 
 -- the link's fate is no news where it stays as it is
-pub and-false : (b : Bool) → (b && false) ≡ false
-and-false true = refl
-and-false false = refl
-
 pub one-fate : (x : Side) (g : ℕ) (stage : Stage) → filter_map (fate_of x g (peer x (fabric_at stage)).table) (peer x (fabric_at stage)).table ≡ []
 one-fate A g NoLink = refl
 one-fate B g NoLink = refl
@@ -147,13 +139,7 @@ module _ (payload : List ℕ) (stage : Stage) (d : Entry) (past : List Entry) (w
       ∙ (ap (λ f. filter_map (fate_of x g (peer x f).table) (peer x f).table) was ∙ one-fate x g stage)
 
   no-below : (g s : ℕ) → below g s d past ≡ []
-  no-below g s =
-      ap (λ (us : List Item). reverse (us ++ ups B s d past) ++ reverse (group_end A g d past ++ group_end B g d past) ++ reverse (fates A g d past ++ fates B g d past)) (no-ups A s)
-      ∙ (ap (λ (us : List Item). reverse us ++ reverse (group_end A g d past ++ group_end B g d past) ++ reverse (fates A g d past ++ fates B g d past)) (no-ups B s)
-      ∙ (ap (λ (us : List Item). reverse (us ++ group_end B g d past) ++ reverse (fates A g d past ++ fates B g d past)) (no-end A g)
-      ∙ (ap (λ (us : List Item). reverse us ++ reverse (fates A g d past ++ fates B g d past)) (no-end B g)
-      ∙ (ap (λ (us : List Item). reverse (us ++ fates B g d past)) (no-fates A g)
-      ∙ ap (λ (us : List Item). reverse us) (no-fates B g)))))
+  no-below g s = below-ups g s d past [] (ap (λ (us : List Item). us ++ ups B s d past) (no-ups A s) ∙ no-ups B s) (λ x. no-end x g) (λ x. no-fates x g)
 
   pub only-deeds : (g s : ℕ) → items payload g s d past ≡ deeds payload s d.event d.reply past
   only-deeds g s = items-are payload g s d past ∙ (ap (λ (is : List Item). deeds payload s d.event d.reply past ++ is) (no-below g s) ∙ append-nil (deeds payload s d.event d.reply past))
@@ -176,9 +162,8 @@ module _ (setup : Setup) (payload : List ℕ) (stage : Stage) (e : Entry) (past 
 
   returns-none : (x : Side) (l : Lending) → returns setup payload x e past l ≡ false
   returns-none x l =
-      ap (λ b. b || (loses_group_with x l.group e past || is_over (half x (pipe_of setup payload l.group l.s (e ∷ past))))) (calm.stays x l.s)
-      ∙ (ap (λ b. b || is_over (half x (pipe_of setup payload l.group l.s (e ∷ past)))) (let v = shows-now in same-group l.group (group_of x past) (group_of x (e ∷ past)) (ap (λ f. (peer x f).group) v.fabric_is))
-      ∙ never-over (terms_of setup) x (part payload l.group l.s (e ∷ past)) (calm.open_items l.group l.s))
+      stays-out setup payload e past x l (calm.stays x l.s)
+      (let v = shows-now in same-group l.group (group_of x past) (group_of x (e ∷ past)) (ap (λ f. (peer x f).group) v.fabric_is)) (calm.open_items l.group l.s)
 
   pub lent-stays : (x : Side) → lent setup payload x (e ∷ past) ≡ lent setup payload x past
   lent-stays x =

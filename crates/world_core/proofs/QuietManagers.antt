@@ -1,5 +1,5 @@
 -- Each event of a world of one link that moves ends alone, and what it makes of the two managers and what is posted.
-use Rattle.std.proofs.Common.{◌≡◌, ◌∙◌, ℕ, ◌==◌, ◌&&◌, Bool, true, false, if◌then◌else◌, List, [], ◌∷◌, take, drop, refl, ap, sym, subst}
+use Rattle.std.proofs.Common.{◌≡◌, ◌∙◌, ℕ, ◌==◌, Bool, true, false, if◌then◌else◌, List, [], ◌∷◌, take, drop, refl, ap, sym, subst}
 use Rattle.std.specs.Prelude.{Option, Some, None, option_map, is_some}
 use Rattle.smc_num.specs.declared.Side.{Side}
 use Rattle.smc_num.specs.declared.Side.TheVariants.{A, B}
@@ -51,10 +51,7 @@ use Rattle.world_core.proofs.KeyedEnds.{KnowsEnds, up-facts}
 use Rattle.world_core.proofs.CallEntries.{IsCalled, IsNothing, nothing-done, is-called, not-called}
 use Rattle.world_core.proofs.WireEntries.{IsMessage, IsTaken, IsDone, message-lands, message-completes, not-message}
 use Rattle.world_core.proofs.KnownEntries.{LentToUp, knows-ends, offers-of, calm-of}
-
-no-and : (b : Bool) → (b && false) ≡ false
-no-and true = refl
-no-and false = refl
+use Rattle.world_core.proofs.Plain.{and-false}
 
 -- what is held asks for nothing
 held-step : (setup : Setup) (payload : List ℕ) (x : Side) (s g : ℕ) (m : ClcMessage) (past : List Entry) (step : ClcStep) (hold : Hold) → step_told g m step ≡ Held hold → clc_posts setup payload x s m past step ≡ []
@@ -186,13 +183,13 @@ module _ (setup : Setup) (payload : List ℕ) (regions : List Buffer) (stage : S
   clc-idle s dir p = quiet-nothing (Clc s dir) Idle p.0 p.1 (quiet-idle-clc actor past s dir) refl (stays dir) (λ t. refl)
     where
       stays : (d : Side) → stays-in (Clc s d) Idle
-      stays A = by-side (λ x. (t : ℕ) → leaves_handshake x t (Clc s A) Idle ≡ false) (λ t. refl) (λ t. no-and (t == s))
-      stays B = by-side (λ x. (t : ℕ) → leaves_handshake x t (Clc s B) Idle ≡ false) (λ t. no-and (t == s)) (λ t. refl)
+      stays A = by-side (λ x. (t : ℕ) → leaves_handshake x t (Clc s A) Idle ≡ false) (λ t. refl) (λ t. and-false (t == s))
+      stays B = by-side (λ x. (t : ℕ) → leaves_handshake x t (Clc s B) Idle ≡ false) (λ t. and-false (t == s)) (λ t. refl)
 
   pub clc-held : (s : ℕ) (hold : Hold) → Plays (Clc s A) (Held hold) → IsNothing setup payload regions (entry-of actor (Clc s A) (Held hold) posts) past
   clc-held s hold p = let m = p.0 in let made = m.1 in
       quiet-nothing (Clc s A) (Held hold) p.0 p.1 (quiet-held-clc actor past s hold) (held-clc setup payload s A past hold (sym made.reply))
-      (by-side (λ x. (t : ℕ) → leaves_handshake x t (Clc s A) (Held hold) ≡ false) (λ t. refl) (λ t. no-and (t == s))) (λ t. refl)
+      (by-side (λ x. (t : ℕ) → leaves_handshake x t (Clc s A) (Held hold) ≡ false) (λ t. refl) (λ t. and-false (t == s))) (λ t. refl)
 
   -- no post that would land, or complete
   pub landing-idle : (slot : ℕ) (dir : Side) → Plays (Deliver slot dir) Idle → IsNothing setup payload regions (entry-of actor (Deliver slot dir) Idle posts) past

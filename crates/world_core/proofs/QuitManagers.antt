@@ -49,7 +49,7 @@ use Rattle.world_core.proofs.QuietEntries.{only-deeds, same-group}
 use Rattle.world_core.proofs.Parts.{part-open}
 use Rattle.world_core.proofs.PlainPosts.{ArePlain, offer-stays, lends-none, lendings-stay, groups-stay, pairs-stay, serial-stays, first-stays}
 use Rattle.world_core.proofs.StillEntries.{silent-pipes, end-stays, lent-stays, returns-by, still-desk, keys-stay, book-stays}
-use Rattle.world_core.proofs.SameManagers.{SameDesk, SameRoute, same-desk, same-conn, same-spare, desk_from, route_from, rows_from}
+use Rattle.world_core.proofs.SameManagers.{SameDesk, SameRoute, same-desk, same-conn, same-spare, desk_from, route_from, rows_from, hand-same, routed-conn, conn_from}
 use Rattle.world_core.proofs.KeptManagers.{by-parts, conn-at}
 use Rattle.world_core.proofs.Lendings.{lending-due}
 use Rattle.world_core.proofs.Tables.{same-sockets, set-socket, at-socket}
@@ -145,9 +145,6 @@ module _ (setup : Setup) (payload : List ℕ) (regions : List Buffer) (stage : S
   state-s : end_state B s (e ∷ past) ≡ HasFallen
   state-s = ap (λ b. if b then IsUp else early_state B s (e ∷ past)) down ∙ (early-b s ∙ ap (λ b. if b then HasFallen else early_state B s past) (eq-eqb s s refl))
 
-  hand-by : (y : Side) (t : ℕ) → end_state y t (e ∷ past) ≡ end_state y t past → hand_of y (e ∷ past) t ≡ hand_of y past t
-  hand-by y t same = ap (λ a. let h : Hand = record { raw = is_raw t past; state = a } in h) same
-
   hand-s : hand_of B (e ∷ past) s ≡ record (hand_at s here) { state = HasFallen }
   hand-s = ap (λ a. let h : Hand = record { raw = is_raw s past; state = a } in h) state-s ∙ ap (λ (h : Hand). let k : Hand = record h { state = HasFallen } in k) (sym (at-socket (hand_of B past) setup.sockets s no_hand known))
 
@@ -171,12 +168,10 @@ module _ (setup : Setup) (payload : List ℕ) (regions : List Buffer) (stage : S
 
   conn-else : (t : ℕ) → (t == s) ≡ false → conn_of setup payload B (e ∷ past) t ≡ conn_of setup payload B past t
   conn-else t d =
-      let same = route-by B t refl (state-else t d) in
-      ap (λ q. option_map (λ k. let c : Connection Half = record { route = route_from q (is_up B t past) (lendings B (e ∷ past)) (heard_on B t (e ∷ past)) k; end = end_of setup payload B t (e ∷ past) } in c) (lending_on t (lent setup payload B (e ∷ past)))) same.link
-      ∙ (ap (λ (all : List Lending). option_map (λ k. let c : Connection Half = record { route = route_from (named_link t past) (is_up B t past) all (heard_on B t (e ∷ past)) k; end = end_of setup payload B t (e ∷ past) } in c) (lending_on t (lent setup payload B (e ∷ past)))) (lendings-stay e past plain-now B)
-      ∙ (ap (λ (q : Option Offer). option_map (λ k. let c : Connection Half = record { route = route_from (named_link t past) (is_up B t past) (lendings B past) q k; end = end_of setup payload B t (e ∷ past) } in c) (lending_on t (lent setup payload B (e ∷ past)))) same.heard
-      ∙ (ap (λ h. option_map (λ k. let c : Connection Half = record { route = route_from (named_link t past) (is_up B t past) (lendings B past) (heard_on B t past) k; end = h } in c) (lending_on t (lent setup payload B (e ∷ past)))) (end-same B t)
-      ∙ ap (λ q. option_map (λ k. let c : Connection Half = record { route = route_from (named_link t past) (is_up B t past) (lendings B past) (heard_on B t past) k; end = end_of setup payload B t past } in c) q) (lending-else t d))))
+      routed-conn setup payload B (e ∷ past) past t (route-by B t refl (state-else t d))
+      ∙ (ap (λ (all : List Lending). conn_from t (named_link t past) (is_up B t past) all (heard_on B t past) (end_of setup payload B t (e ∷ past)) (lent setup payload B (e ∷ past))) (lendings-stay e past plain-now B)
+      ∙ (ap (λ h. conn_from t (named_link t past) (is_up B t past) (lendings B past) (heard_on B t past) h (lent setup payload B (e ∷ past))) (end-same B t)
+      ∙ ap (λ q. option_map (λ k. let c : Connection Half = record { route = route_from (named_link t past) (is_up B t past) (lendings B past) (heard_on B t past) k; end = end_of setup payload B t past } in c) q) (lending-else t d)))
 
   conn-was : conn_at s here.records ≡ Some (record { route = route_of B s past l; end = end_of setup payload B s past })
   conn-was = conn-at setup payload regions B past s known ∙ ap (λ q. option_map (λ k. let c : Connection Half = record { route = route_of B s past k; end = end_of setup payload B s past } in c) q) found
@@ -194,7 +189,7 @@ module _ (setup : Setup) (payload : List ℕ) (regions : List Buffer) (stage : S
       (slice_set (each_socket (hand_of B past) setup.sockets) s (record (hand_at s here) { state = HasFallen })) (slice_set (each_socket (conn_of setup payload B past) setup.sockets) s None)
       (length (lendings B past)) (length (free_places setup payload B past) + 1)
       desk-b
-      (sym (set-socket (hand_of B past) (hand_of B (e ∷ past)) setup.sockets s (λ t d. hand-by B t (state-else t d))) ∙ ap (λ h. slice_set (each_socket (hand_of B past) setup.sockets) s h) hand-s)
+      (sym (set-socket (hand_of B past) (hand_of B (e ∷ past)) setup.sockets s (λ t d. hand-same B (e ∷ past) past t refl (state-else t d))) ∙ ap (λ h. slice_set (each_socket (hand_of B past) setup.sockets) s h) hand-s)
       (sym (set-socket (conn_of setup payload B past) (conn_of setup payload B (e ∷ past)) setup.sockets s conn-else) ∙ ap (λ (k : Option (Connection Half)). slice_set (each_socket (conn_of setup payload B past) setup.sockets) s k) conn-s)
       (ap (λ (ls : List Lending). length ls) (lendings-stay e past plain-now B)) spare-b
       ∙ ap (λ q. with_hand s (record (hand_at s here) { state = HasFallen }) (quits_from s q here)) (sym conn-was)
@@ -202,7 +197,7 @@ module _ (setup : Setup) (payload : List ℕ) (regions : List Buffer) (stage : S
   theirs-now : manager_of setup payload regions A (e ∷ past) ≡ manager_of setup payload regions A past
   theirs-now =
       by-parts setup payload regions A (e ∷ past) (desk_of setup payload A past) (each_socket (hand_of A past) setup.sockets) (each_socket (conn_of setup payload A past) setup.sockets) (length (lendings A past)) (length (free_places setup payload A past))
-      (same-desk setup payload A (e ∷ past) past desk-a) (same-sockets (hand_of A (e ∷ past)) (hand_of A past) (λ t. hand-by A t (state-a t)) setup.sockets)
+      (same-desk setup payload A (e ∷ past) past desk-a) (same-sockets (hand_of A (e ∷ past)) (hand_of A past) (λ t. hand-same A (e ∷ past) past t refl (state-a t)) setup.sockets)
       (same-sockets (conn_of setup payload A (e ∷ past)) (conn_of setup payload A past) (λ t. same-conn setup payload A (e ∷ past) past t (route-by A t refl (state-a t)) (lendings-stay e past plain-now A) lent-a (end-same A t)) setup.sockets)
       (ap (λ (ls : List Lending). length ls) (lendings-stay e past plain-now A)) (same-spare setup payload A (e ∷ past) past lent-a)
 

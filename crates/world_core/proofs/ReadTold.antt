@@ -56,9 +56,9 @@ use Rattle.world_core.proofs.Stood.{IsElement, slice-length}
 use Rattle.world_core.proofs.EndRecords.{state-is, up-conn}
 use Rattle.world_core.proofs.CallStates.{is_up_state, is_reset_state, is-end, seen-absent, seen-up, seen-fallen, waits, absent-or}
 use Rattle.world_core.proofs.ReadAnswers.{handed-is, told-bytes, told-count, answer-count, element-bytes}
-use Rattle.world_core.proofs.MovedWires.{twice}
 use Rattle.world_core.proofs.AllLendings.{has-lendings}
 use Rattle.world_core.proofs.StreamFronts.{fallen-call-told}
+use Rattle.world_core.proofs.Plain.{twice}
 
 -- what a read of a stream that is not done hands out
 pub fallen-bytes : (held : List ℕ) (len : ℕ) → told_bytes (fallen_read false held len Open) ≡ take len held

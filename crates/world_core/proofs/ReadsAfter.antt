@@ -50,10 +50,10 @@ use Rattle.world_core.proofs.CallStates.{is-end, seen-absent, seen-up, seen-fall
 use Rattle.world_core.proofs.CallsAfter.{IsCall, entry_by, plays, plain_at, Now, idle-after, stays-after, called-after, has-room, may-go, sound-here, mine-flows}
 use Rattle.world_core.proofs.ReadAnswers.{answer-replied, reads-count}
 use Rattle.world_core.proofs.ReadTold.{here, peer_out, state, up-is, fallen-is, told-absent, told-waits, told-fell, up, told-up, is-open, Count, fits, answers-here, taken-count}
-use Rattle.world_core.proofs.MovedWires.{twice}
 use Rattle.world_core.proofs.StreamFronts.{unfallen-reads, read-writes}
 use Rattle.world_core.proofs.AllLendings.{has-lendings}
 use Rattle.world_core.proofs.StreamsAfter.{Flowing, their-flows, their-read}
+use Rattle.world_core.proofs.Plain.{twice}
 
 -- what is done to an end makes the same of its manager, where it makes the same of the end
 module _ (s : ℕ) (one two : Half → Half) (m : Manager Half) (c : Connection Half) (there : conn_at s m.records ≡ Some c) (same : one c.end ≡ two c.end) where

@@ -41,15 +41,16 @@ use Rattle.world_core.specs.Played.{IsPlayed}
 use Rattle.world_core.specs.Agreement.{IsShaken}
 use Rattle.world_core.specs.Managers.{manager_of, desk_of, hand_of, conn_of, end_of, rows_of, first_on, each_socket, lending_on, heard_on, awaits_confirm, keeps_element, HasLendings}
 use Rattle.world_core.proofs.QuietEvents.{by-side, entry-of}
-use Rattle.world_core.proofs.QuietEntries.{only-deeds, same-group, and-false}
+use Rattle.world_core.proofs.QuietEntries.{only-deeds, same-group}
 use Rattle.world_core.proofs.Parts.{part-open}
 use Rattle.world_core.proofs.PlainPosts.{ArePlain, offer-stays, lends-none, lendings-stay, groups-stay, pairs-stay, serial-stays, first-stays}
 use Rattle.world_core.proofs.StillEntries.{silent-pipes, end-stays, lent-stays, still-desk, keys-stay}
-use Rattle.world_core.proofs.SameManagers.{SameDesk, SameRoute, desk_from, conn_from, route_from, same-desk, same-conn, same-spare, rows_from}
+use Rattle.world_core.proofs.SameManagers.{SameDesk, SameRoute, desk_from, conn_from, route_from, same-desk, same-conn, same-spare, rows_from, hand-same}
 use Rattle.world_core.proofs.KeptManagers.{by-parts}
 use Rattle.world_core.proofs.Lendings.{lendings-kept}
 use Rattle.world_core.proofs.Tables.{same-sockets, set-socket, at-socket}
 use Rattle.world_core.proofs.TakenAlone.{IsTakenBy, taken-by}
+use Rattle.world_core.proofs.Plain.{and-false}
 
 module _ (setup : Setup) (payload : List ℕ) (regions : List Buffer) (past : List Entry) (one : setup.links ≡ 1) (s : ℕ) (world : IsWorld setup (Made s) past) (lendings_are : HasLendings setup payload past) (actor n : ℕ) (posts : List Post)
     (known : s < setup.sockets) (o : Offer) (len : ℕ) (theirs_is : offered A s past ≡ on_link o) (named : named_link s past ≡ Some the_link) (first : o.first ≡ true) (state : end_state B s past ≡ WaitsConfirm) (down : is_up B s past ≡ false)
@@ -171,9 +172,6 @@ module _ (setup : Setup) (payload : List ℕ) (regions : List Buffer) (past : Li
       ∙ (ap (λ (ls : List Lending). conn_from s (named_link s past) (is_up B s past) (lendings B past) (Some o) (end_of setup payload B s past) ls) (lent-now B)
       ∙ aimed (named_link s past) (is_up B s past) (lendings B past) (heard_on B s past) (end_of setup payload B s past) (lending_on s (lent setup payload B past))))))
 
-  hand-by : (y : Side) (t : ℕ) → end_state y t (e ∷ past) ≡ end_state y t past → hand_of y (e ∷ past) t ≡ hand_of y past t
-  hand-by y t same = ap (λ a. let h : Hand = record { raw = is_raw t past; state = a } in h) same
-
   hand-here : hand_of B (e ∷ past) s ≡ record (hand_at s here) { state = after_confirm true }
   hand-here =
       ap (λ a. let h : Hand = record { raw = is_raw s past; state = a } in h) state-here
@@ -186,7 +184,7 @@ module _ (setup : Setup) (payload : List ℕ) (regions : List Buffer) (past : Li
       (slice_set (each_socket (conn_of setup payload B past) setup.sockets) s (option_map aim (slice_index_or (each_socket (conn_of setup payload B past) setup.sockets) s None)))
       (length (lendings B past)) (length (free_places setup payload B past))
       desk-own
-      (sym (set-socket (hand_of B past) (hand_of B (e ∷ past)) setup.sockets s (λ t d. hand-by B t (state-else t d))) ∙ ap (λ h. slice_set (each_socket (hand_of B past) setup.sockets) s h) hand-here)
+      (sym (set-socket (hand_of B past) (hand_of B (e ∷ past)) setup.sockets s (λ t d. hand-same B (e ∷ past) past t refl (state-else t d))) ∙ ap (λ h. slice_set (each_socket (hand_of B past) setup.sockets) s h) hand-here)
       (sym (set-socket (conn_of setup payload B past) (conn_of setup payload B (e ∷ past)) setup.sockets s (λ t d. same-conn setup payload B (e ∷ past) past t (route-by B t (state-else t d)) (lendings-stay e past plain-now B) (lent-now B) (end-same B t)))
       ∙ (ap (λ (c : Option (Connection Half)). slice_set (each_socket (conn_of setup payload B past) setup.sockets) s c) conn-here
       ∙ ap (λ (c : Option (Connection Half)). slice_set (each_socket (conn_of setup payload B past) setup.sockets) s (option_map aim c)) (sym (at-socket (conn_of setup payload B past) setup.sockets s None known))))
@@ -196,7 +194,7 @@ module _ (setup : Setup) (payload : List ℕ) (regions : List Buffer) (past : Li
   theirs-now =
       by-parts setup payload regions A (e ∷ past) (desk_of setup payload A past) (each_socket (hand_of A past) setup.sockets) (each_socket (conn_of setup payload A past) setup.sockets) (length (lendings A past)) (length (free_places setup payload A past))
       (same-desk setup payload A (e ∷ past) past desk-theirs)
-      (same-sockets (hand_of A (e ∷ past)) (hand_of A past) (λ t. hand-by A t (state-theirs t)) setup.sockets)
+      (same-sockets (hand_of A (e ∷ past)) (hand_of A past) (λ t. hand-same A (e ∷ past) past t refl (state-theirs t)) setup.sockets)
       (same-sockets (conn_of setup payload A (e ∷ past)) (conn_of setup payload A past) (λ t. same-conn setup payload A (e ∷ past) past t (route-by A t (state-theirs t)) (lendings-stay e past plain-now A) (lent-now A) (end-same A t)) setup.sockets)
       (ap (λ (ls : List Lending). length ls) (lendings-stay e past plain-now A)) (same-spare setup payload A (e ∷ past) past (lent-now A))
 

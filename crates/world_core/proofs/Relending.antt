@@ -22,9 +22,10 @@ use Rattle.world_core.specs.Sockets.{Socket, AcceptFallen, end_at, offered_at, o
 use Rattle.world_core.specs.Lent.{EachLending, IsOfOffer, Begins, BeginsNone, BeginsOne}
 use Rattle.world_core.proofs.TakenMessages.{end-is}
 use Rattle.world_core.proofs.Offers.{IsFree, is-free}
-use Rattle.world_core.proofs.LendingFacts.{free-apart, played-lendings}
+use Rattle.world_core.proofs.LendingFacts.{free-apart, played-lendings, each-map}
 use Rattle.world_core.proofs.PlayedWorlds.{goes, played}
 use Rattle.world_core.proofs.StandingLendings.{stays-lent}
+use Rattle.world_core.proofs.Plain.{and-true, or-true}
 
 -- an end that has offered and fallen back is B's, and A's has fallen back too
 both-fallen : (k : Socket) (x : Side) → is_some (offered_at k x) ≡ true → is_fallen_state (end_at k x) ≡ true → (y : Side) → end_at k y ≡ HasFallen
@@ -33,17 +34,9 @@ both-fallen (AcceptFallen o) A e f y = refl
 both-fallen _ A e f y = cc
 both-fallen _ B e f y = cc
 
-or-true : (a b : Bool) → b ≡ true → (a || b) ≡ true
-or-true true b e = refl
-or-true false b e = e
-
 or-left : (a b : Bool) → a ≡ true → (a || b) ≡ true
 or-left true b e = refl
 or-left false b e = cc
-
-and-both : (a b : Bool) → a ≡ true → b ≡ true → (a && b) ≡ true
-and-both true b e f = f
-and-both false b e f = e
 
 -- what holds of each lending that passes a test
 kept-all : (P : Lending → Type 0) (f : Lending → Bool) (ls : List Lending) → EachLending (λ l. f l ≡ true → P l) ls → All P (filter f ls)
@@ -53,10 +46,6 @@ kept-all P f (l ∷ ls) a = by_test (f l) a.0 (kept-all P f ls a.1)
     by_test : (b : Bool) → (b ≡ true → P l) → All P (filter f ls) → All P (cond b (l ∷ filter f ls) (filter f ls))
     by_test true g r = All-cons P l (filter f ls) (g refl) r
     by_test false g r = r
-
-each-more : (P Q : Lending → Type 0) → ((l : Lending) → P l → Q l) → (ls : List Lending) → EachLending P ls → EachLending Q ls
-each-more P Q f [] a = tt
-each-more P Q f (l ∷ ls) a = (f l a.0, each-more P Q f ls a.1)
 
 found-one : (P : Lending → Type 0) (f : Lending → Bool) (ls : List Lending) (l : Lending) → EachLending P ls → find f ls ≡ Some l → P l
 found-one P f [] l a e = absurd (let g : None ≡ Some l = e in cc)
@@ -81,7 +70,7 @@ module _ (setup : Setup) (one : IsOneLink setup) (payload : List ℕ) (past : Li
   gone-as y s e = or-true (told_last y (token_of (other y) s past) past) _ (or-left (is_out (end_state y s past)) (has_ended y (group_on s past) past) (ap (λ (d : EndState). is_out d) e))
 
   done-with : (x : Side) (l : Lending) (o : Offer) → offered x l.s past ≡ on_link o → is_fallen x l.s past ≡ true → is_done_with x l past ≡ true
-  done-with x l o e f = or-left (is_gone A l.s past && is_gone B l.s past) (has_ended x l.group past) (and-both (is_gone A l.s past) (is_gone B l.s past) (gone-as A l.s (fell-both x l.s o e f A)) (gone-as B l.s (fell-both x l.s o e f B)))
+  done-with x l o e f = or-left (is_gone A l.s past && is_gone B l.s past) (has_ended x l.group past) (and-true (is_gone A l.s past) (is_gone B l.s past) (gone-as A l.s (fell-both x l.s o e f A)) (gone-as B l.s (fell-both x l.s o e f B)))
 
   rmbs : (y : Side) → rmbs_of setup y ≡ 1
   rmbs A = one.rmbs_a
@@ -105,7 +94,7 @@ module _ (setup : Setup) (one : IsOneLink setup) (payload : List ℕ) (past : Li
       let apart = free-apart (offered_place o) (lent setup payload x past) place.free in
       let all = played-lendings setup one payload past n p x in
       kept-all (λ l. IsTrue (is_done_with x l past)) (λ l. same_place (offered_place o) l.place) (lendings x past)
-      (each-more (IsOfOffer x past) (λ l. same_place (offered_place o) l.place ≡ true → IsTrue (is_done_with x l past)) (done-or-apart x (offered_place o) apart) (lendings x past) all.offers)
+      (each-map (IsOfOffer x past) (λ l. same_place (offered_place o) l.place ≡ true → IsTrue (is_done_with x l past)) (done-or-apart x (offered_place o) apart) (lendings x past) all.offers)
 
   lent-by : (x : Side) (e : Entry) → Begins setup payload x e past → IsLent x e past
   lent-by x e (BeginsNone none) = subst (λ (ls : List Lending). All (λ l. IsRelent x l past) ls) (sym none) (All-nil (λ l. IsRelent x l past))

@@ -2,7 +2,7 @@
 use Rattle.std.specs.List.{range_with_len}
 use Rattle.side_core.specs.declared.route.Route.{Route}
 use Rattle.smc_num.specs.declared.LinkId.{LinkId}
-use Rattle.std.proofs.Common.{◌≡◌, ◌∙◌, ℕ, ◌<◌, ◌==◌, not, Bool, true, false, if◌then◌else◌, List, [], ◌∷◌, ◌++◌, length, drop, map, flat_map, refl, ap, sym, append-nil, arith}
+use Rattle.std.proofs.Common.{◌≡◌, ◌∙◌, ℕ, ◌<◌, ◌==◌, not, Bool, true, false, if◌then◌else◌, List, [], ◌∷◌, ◌++◌, map, flat_map, refl, ap, sym, append-nil, arith}
 use Rattle.std.specs.Prelude.{Option, Some, None, option_map, unwrap_or, slice_index_or}
 use Rattle.smc_num.specs.declared.Side.{Side}
 use Rattle.smc_num.specs.declared.Side.TheVariants.{A, B}
@@ -34,6 +34,7 @@ use Rattle.world_core.proofs.DuePosts.{up-posts}
 use Rattle.world_core.proofs.Confirming.{Confirming, IsConfirming, IsWaiting, keys-same, items-first, items-else}
 use Rattle.world_core.proofs.LinkManagers.{hear, map-map}
 use Rattle.world_core.proofs.Tables.{at-socket}
+use Rattle.std.proofs.Math.Seq.{drop-length}
 
 module _ {x : Side} {t : ℕ} {from to : Stage} {reply : Bool} (setup : Setup) (payload : List ℕ) (regions : List Buffer) (q : Entry) (past : List Entry) (c : Confirming x t from to reply)
     (was : IsAtStage setup from past) (now : IsAtStage setup to (q ∷ past)) (i : IsConfirming payload x reply q past) (w : IsWaiting setup x t past) (knows : KnowsEnds setup payload past) (f : UpFacts setup payload x t past)
@@ -58,10 +59,6 @@ module _ {x : Side} {t : ℕ} {from to : Stage} {reply : Bool} (setup : Setup) (
       ap (λ g. items payload g s q past) (ap (λ o. unwrap_or (option_map (λ (link : LinkId). link.group) (option_map (λ (p : Offered). p.link) o)) 0) (w.others s d B))
       ∙ items-else c setup payload q past was.fabric_is now.fabric_is i w s d
 
-  nothing-since : (ms : List Sent) → drop (length ms) ms ≡ []
-  nothing-since [] = refl
-  nothing-since (m ∷ ms) = nothing-since ms
-
   given-by : (y : Side) (s : ℕ) (is : List Item) → items payload (group_on s past) s q past ≡ is
       → posts_of (terms_of setup) y (items payload (group_on s past) s q past) (part payload (group_on s past) s past) ≡ sent_since (end_of setup payload y s past) (half y (pipe (terms_of setup) (is ++ part payload (group_on s past) s past)))
   given-by y s is e = ap (λ (is : List Item). sent_since (end_of setup payload y s past) (half y (pipe (terms_of setup) (is ++ part payload (group_on s past) s past)))) e
@@ -75,13 +72,13 @@ module _ {x : Side} {t : ℕ} {from to : Stage} {reply : Bool} (setup : Setup) (
       ∙ silent-end B s (none B)
     where
       none : (y : Side) → posts_of (terms_of setup) y (items payload (group_on s past) s q past) (part payload (group_on s past) s past) ≡ []
-      none y = given-by y s [] (items-there s d) ∙ (let h : Half = end_of setup payload y s past in nothing-since h.sent)
+      none y = given-by y s [] (items-there s d) ∙ (let h : Half = end_of setup payload y s past in drop-length h.sent)
 
   silent-theirs : end_posts setup payload (other x) t q past ≡ []
   silent-theirs = silent-end (other x) t
       (given-by (other x) t news items-here
       ∙ (ap (λ h. sent_since (end_before (other x)) h) (risen-other (terms_of setup) (part payload (group_on t past) t past) the_link x)
-      ∙ (let h : Half = end_before (other x) in nothing-since h.sent)))
+      ∙ (let h : Half = end_before (other x) in drop-length h.sent)))
 
   down : (end_before x).up ≡ false
   down = knows.up x t ∙ w.down

@@ -1,5 +1,5 @@
 -- An end comes up on the one link, where its peer has offered; and the link becomes live at a side before any end there is up.
-use Rattle.std.proofs.Common.{◌≡◌, ◌∙◌, ◌==◌, ◌⊎◌, inl, inr, ℕ, ◌≤◌, Bool, true, false, if◌then◌else◌, List, [], ◌∷◌, filter_map, refl, ap, sym, arith, ◌&&◌, ◌||◌, true≢false, eqb-true}
+use Rattle.std.proofs.Common.{◌≡◌, ◌∙◌, ◌==◌, ◌⊎◌, inl, inr, ℕ, ◌≤◌, Bool, true, false, if◌then◌else◌, List, [], ◌∷◌, filter_map, refl, ap, sym, arith, ◌||◌, true≢false, eqb-true}
 use Rattle.std.specs.Prelude.{Option, Some, None, is_some, option_map, option_and_then, unwrap_or}
 use Rattle.std.specs.Option.{option_or}
 use Rattle.smc_num.specs.declared.Side.{Side}
@@ -25,9 +25,8 @@ use Rattle.world_core.specs.OneLink.{the_link, the_known, Stage, NoLink, Begun, 
 use Rattle.world_core.specs.Sockets.{Socket, Unopened, Fallen, Proposed, Refused, FirstAccepted, FirstConfirmed, AwaitsLink, FirstUpAtA, FirstUp, Accepted, AcceptRefused, AcceptFallen, Confirmed, Up, IsWorld, up_at, first_step, is_unoffered, suits}
 use Rattle.world_core.specs.Agreement.{IsCalm}
 use Rattle.world_core.proofs.Shaken.{Choice, offered-none, old-or-new, up-answered}
-
-none-some : (l : LinkId) → None ≡ Some l → ⊥
-none-some l e = true≢false (sym (ap (λ (q : Option LinkId). is_some q) e))
+use Rattle.world_core.proofs.Plain.{and-both, none-some, link-is}
+use Rattle.world_core.proofs.LinkFacts.{is_live_at}
 
 -- a message that establishes an end does so on the link that B named
 up-by-some : (x : Side) (s : ℕ) (event : Event) (reply : Reply) (past : List Entry) (l : LinkId) → up_by x s event reply past ≡ Some l → named_link s past ≡ Some l
@@ -51,20 +50,6 @@ confirmed-some o link (LiveStep reply true) l e = by (is_first_on link o) refl e
     by false f g = absurd (none-some l g)
 confirmed-some o link step l e = absurd (none-some l e)
 
-and-both : (a b : Bool) → (a && b) ≡ true → (a ≡ true) × (b ≡ true)
-and-both true b e = (refl, e)
-and-both false b e = absurd (true≢false (sym e))
-
-link-of : (a b : LinkId) → a.group ≡ b.group → a.slot ≡ b.slot → a.incarnation ≡ b.incarnation → a ≡ b
-link-of a b e f g =
-    ap (λ n. record { group = n; slot = a.slot; incarnation = a.incarnation }) e ∙ ap (λ n. record { group = b.group; slot = n; incarnation = a.incarnation }) f ∙ ap (λ n. record { group = b.group; slot = b.slot; incarnation = n }) g
-
-same-link-is : (a b : LinkId) → same_link a b ≡ true → a ≡ b
-same-link-is a b e =
-    let p = and-both (a.group == b.group) ((a.slot == b.slot) && (a.incarnation == b.incarnation)) e in
-    let q = and-both (a.slot == b.slot) (a.incarnation == b.incarnation) p.1 in
-    link-of a b (eqb-true a.group b.group p.0) (eqb-true a.slot b.slot q.0) (eqb-true a.incarnation b.incarnation q.1)
-
 -- that B has offered on a socket, on this link
 abbrev Named : ℕ → List Entry → LinkId → Type 0
 Named s past l = (o : Offered) × ((offered B s past ≡ Some o) × (o.link ≡ l))
@@ -83,7 +68,7 @@ first-by s past link l e g = by (offered B s past) refl
     by None f = absurd (true≢false (sym e ∙ ap (λ r. is_first_on link r) f))
     by (Some o) f =
         let p = and-both o.offer.first (same_link o.link link) (sym (ap (λ r. is_first_on link r) f) ∙ e) in
-        (o, (f, same-link-is o.link link p.1 ∙ g))
+        (o, (f, link-is o.link link p.1 ∙ g))
 
 act-by : (s : ℕ) (past : List Entry) (l : LinkId) (a : Option Act) → option_and_then (λ act. confirmed_by (offered B s past) act.link act.step) a ≡ Some l → Named s past l
 act-by s past l None e = absurd (none-some l e)
@@ -99,7 +84,7 @@ comes-named x s e past l c = either-by s past l (up_by x s e.event e.reply past)
     (λ u. named-by s past l (up-by-some x s e.event e.reply past l u)) (λ u. act-by s past l (act_in x e past) u)
 
 -- B's end does not come up with a message to A
-abbrev comes_by : Side → ℕ → Event → Reply → List Entry → Option LinkId
+abbrev pub comes_by : Side → ℕ → Event → Reply → List Entry → Option LinkId
 comes_by x s event reply past = option_or (up_by x s event reply past) (option_and_then (λ act. confirmed_by (offered B s past) act.link act.step) (act_by x event reply past))
 
 not-with : (s t : ℕ) (e : Entry) (past : List Entry) (l : LinkId) → e.event ≡ ClcEvent t B → comes_up B s e past ≡ Some l → ⊥
@@ -131,18 +116,13 @@ module _ (setup : Setup) (payload : List ℕ) (e : Entry) (past : List Entry) (b
   comes-offered B s l c = answered-by s l c (offered A s (e ∷ past)) refl (answered-now s l c)
 
 -- the link at a side
-abbrev live_at : Side → Stage → Bool
-live_at A (LiveAtA s qp) = true
-live_at x (LiveAtBoth s) = true
-live_at x _ = false
-
 abbrev table_at : Side → Stage → List Known
 table_at x stage = (peer x (fabric_at stage)).table
 
 abbrev Table : List Known → Bool → Type 0
 Table table live = (((table ≡ []) × (live ≡ false)) ⊎ ((table ≡ the_known Pending ∷ []) × (live ≡ false))) ⊎ ((table ≡ the_known Live ∷ []) × (live ≡ true))
 
-table-is : (x : Side) (stage : Stage) → Table (table_at x stage) (live_at x stage)
+table-is : (x : Side) (stage : Stage) → Table (table_at x stage) (is_live_at x stage)
 table-is A NoLink = inl (inl (refl, refl))
 table-is B NoLink = inl (inl (refl, refl))
 table-is A (Begun s) = inl (inl (refl, refl))
@@ -225,7 +205,7 @@ either : (b : Bool) (p q r : Bool) → (if b then p else q) ≡ true → (p ≡ 
 either true p q r e f g = f e
 either false p q r e f g = g e
 
-down-at : (x : Side) (stage : Stage) (s : ℕ) (k : Socket) → live_at x stage ≡ false → suits stage s k ≡ true → up_at k x ≡ false
+down-at : (x : Side) (stage : Stage) (s : ℕ) (k : Socket) → is_live_at x stage ≡ false → suits stage s k ≡ true → up_at k x ≡ false
 down-at x NoLink s k d e = unoffered-down k x e
 down-at x (Begun t) s k d e = either (s == t) _ _ _ e (λ f. step-down k 1 x f (omega arith) (omega arith)) (λ f. unoffered-down k x f)
 down-at x (Made t) s k d e = either (s == t) _ _ _ e (λ f. step-down k 2 x f (omega arith) (omega arith)) (λ f. unoffered-down k x f)
@@ -236,7 +216,7 @@ down-at A (LiveAtBoth t) s k d e = absurd (true≢false d)
 down-at B (LiveAtBoth t) s k d e = absurd (true≢false d)
 
 pub is-calm : (setup : Setup) (from to : Stage) (e : Entry) (past : List Entry) → IsWorld setup from past → IsWorld setup to (e ∷ past) → (x : Side) → IsCalm x e past
-is-calm setup from to e past was now x = by (fates-by x (table_at x from) (table_at x to) (live_at x from) (live_at x to) (table-is x from) (table-is x to))
+is-calm setup from to e past was now x = by (fates-by x (table_at x from) (table_at x to) (is_live_at x from) (is_live_at x to) (table-is x from) (table-is x to))
   where
     fates_is : fates x 1 e past ≡ Fates x (table_at x from) (table_at x to)
     fates_is =
@@ -244,6 +224,6 @@ is-calm setup from to e past was now x = by (fates-by x (table_at x from) (table
         let later = now.link in
         ap (λ (f : Fabric). Fates x (peer x f).table (table_of x (e ∷ past))) at.fabric_is ∙ ap (λ (f : Fabric). Fates x (table_at x from) (peer x f).table) later.fabric_is
 
-    by : (Fates x (table_at x from) (table_at x to) ≡ []) ⊎ ((Fates x (table_at x from) (table_at x to) ≡ Fate x the_link Live ∷ []) × (live_at x from ≡ false)) → IsCalm x e past
+    by : (Fates x (table_at x from) (table_at x to) ≡ []) ⊎ ((Fates x (table_at x from) (table_at x to) ≡ Fate x the_link Live ∷ []) × (is_live_at x from ≡ false)) → IsCalm x e past
     by (inl f) = inl (fates_is ∙ f)
     by (inr f) = inr (fates_is ∙ f.0, λ s. let h = was.sockets s in let at = h.stands in at.up x ∙ down-at x from s h.at f.1 h.suits_is)

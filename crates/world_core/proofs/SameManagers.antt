@@ -87,10 +87,13 @@ pub record SameSocket (x : Side) (one two : List Entry) (s : ℕ) : Type 0 where
   pub state : end_state x s one ≡ end_state x s two
   pub route : SameRoute x one two s
 
+pub hand-same : (x : Side) (one two : List Entry) (s : ℕ) → is_raw s one ≡ is_raw s two → end_state x s one ≡ end_state x s two → hand_of x one s ≡ hand_of x two s
+hand-same x one two s raw state =
+    ap (λ b. let h : Hand = record { raw = b; state = end_state x s one } in h) raw
+    ∙ ap (λ e. let h : Hand = record { raw = is_raw s two; state = e } in h) state
+
 pub same-hand : (x : Side) (one two : List Entry) (s : ℕ) → SameSocket x one two s → hand_of x one s ≡ hand_of x two s
-same-hand x one two s same =
-    ap (λ b. let h : Hand = record { raw = b; state = end_state x s one } in h) same.raw
-    ∙ ap (λ e. let h : Hand = record { raw = is_raw s two; state = e } in h) same.state
+same-hand x one two s same = hand-same x one two s same.raw same.state
 
 -- a route of these parts
 abbrev pub route_from : Option LinkId → Bool → List Lending → Option Offer → Lending → Route
@@ -108,15 +111,21 @@ conn_from s link up all heard end lent_now =
     option_map (λ l. let c : Connection Half = record { route = route_from link up all heard l; end = end } in c) (lending_on s lent_now)
 
 module _ (setup : Setup) (payload : List ℕ) (x : Side) (one two : List Entry) where
+  -- all but its lending and its end
+  pub routed-conn : (s : ℕ) → SameRoute x one two s
+      → conn_of setup payload x one s ≡ conn_from s (named_link s two) (is_up x s two) (lendings x one) (heard_on x s two) (end_of setup payload x s one) (lent setup payload x one)
+  routed-conn s same =
+      ap (λ o. conn_from s o (is_up x s one) (lendings x one) (heard_on x s one) (end_of setup payload x s one) (lent setup payload x one)) same.link
+      ∙ (ap (λ b. conn_from s (named_link s two) b (lendings x one) (heard_on x s one) (end_of setup payload x s one) (lent setup payload x one)) same.up
+      ∙ ap (λ (o : Option Offer). conn_from s (named_link s two) (is_up x s two) (lendings x one) o (end_of setup payload x s one) (lent setup payload x one)) same.heard)
+
   -- all but the end
   moved-conn : (s : ℕ) → SameRoute x one two s → lendings x one ≡ lendings x two → lent setup payload x one ≡ lent setup payload x two
       → conn_of setup payload x one s ≡ conn_from s (named_link s two) (is_up x s two) (lendings x two) (heard_on x s two) (end_of setup payload x s one) (lent setup payload x two)
   moved-conn s same all now =
-      ap (λ o. conn_from s o (is_up x s one) (lendings x one) (heard_on x s one) (end_of setup payload x s one) (lent setup payload x one)) same.link
-      ∙ (ap (λ b. conn_from s (named_link s two) b (lendings x one) (heard_on x s one) (end_of setup payload x s one) (lent setup payload x one)) same.up
-      ∙ (ap (λ (ls : List Lending). conn_from s (named_link s two) (is_up x s two) ls (heard_on x s one) (end_of setup payload x s one) (lent setup payload x one)) all
-      ∙ (ap (λ (o : Option Offer). conn_from s (named_link s two) (is_up x s two) (lendings x two) o (end_of setup payload x s one) (lent setup payload x one)) same.heard
-      ∙ ap (λ (ls : List Lending). conn_from s (named_link s two) (is_up x s two) (lendings x two) (heard_on x s two) (end_of setup payload x s one) ls) now)))
+      routed-conn s same
+      ∙ (ap (λ (ls : List Lending). conn_from s (named_link s two) (is_up x s two) ls (heard_on x s two) (end_of setup payload x s one) (lent setup payload x one)) all
+      ∙ ap (λ (ls : List Lending). conn_from s (named_link s two) (is_up x s two) (lendings x two) (heard_on x s two) (end_of setup payload x s one) ls) now)
 
   pub same-conn : (s : ℕ) → SameRoute x one two s → lendings x one ≡ lendings x two → lent setup payload x one ≡ lent setup payload x two
       → end_of setup payload x s one ≡ end_of setup payload x s two → conn_of setup payload x one s ≡ conn_of setup payload x two s

@@ -27,7 +27,7 @@ use Rattle.pipe_model.specs.Home.{cdc_in}
 use Rattle.pipe_model.specs.Lawful.{draft}
 use Rattle.pipe_model.proofs.Carried.{carries-few}
 use Rattle.world_core.specs.Played.{IsOneLink, IsPlayed, handed}
-use Rattle.world_core.specs.OneLink.{Stage, NoLink, Begun, Made, Asking, LiveAtA, LiveAtBoth, the_link, the_key, the_keys, keys_at, fabric_at}
+use Rattle.world_core.specs.OneLink.{Stage, the_link, the_key, the_keys, keys_at, fabric_at}
 use Rattle.world_core.specs.Sockets.{IsWorld}
 use Rattle.world_core.specs.Views.{plus}
 use Rattle.world_core.specs.WireSteps.{EachPlaced, leaving}
@@ -43,29 +43,15 @@ use Rattle.world_core.proofs.AskedPosts.{asked-control}
 use Rattle.world_core.proofs.DataPosts.{connections-data, shows-plus}
 use Rattle.world_core.proofs.LinkFacts.{offers-none}
 use Rattle.world_core.proofs.Records.{all-offers}
-use Rattle.world_core.proofs.BoundKeys.{now-bound}
+use Rattle.world_core.proofs.BoundKeys.{now-bound, keys-are}
 use Rattle.world_core.proofs.DirectedWrites.{batch-goes, control-front, new-under-way, under-way-still}
 
 -- a side that has offered has its key
-keys-by : (x : Side) (stage : Stage) → ((peer x (fabric_at stage)).group ≡ 0) ⊎ (keys_at x stage ≡ the_keys x)
-keys-by A NoLink = inl refl
-keys-by A (Begun s) = inl refl
-keys-by A (Made s) = inr refl
-keys-by A (Asking s qp) = inr refl
-keys-by A (LiveAtA s qp) = inr refl
-keys-by A (LiveAtBoth s) = inr refl
-keys-by B NoLink = inl refl
-keys-by B (Begun s) = inr refl
-keys-by B (Made s) = inr refl
-keys-by B (Asking s qp) = inr refl
-keys-by B (LiveAtA s qp) = inr refl
-keys-by B (LiveAtBoth s) = inr refl
-
 pub offered-keys : (setup : Setup) (stage : Stage) (past : List Entry) → IsWorld setup stage past → (x : Side) (s : ℕ) (o : Offered) → offered x s past ≡ Some o → keys_of x past ≡ the_keys x
-offered-keys setup stage past w x s o e = by (keys-by x stage)
+offered-keys setup stage past w x s o e = by (keys-are x stage)
   where
-    by : ((peer x (fabric_at stage)).group ≡ 0) ⊎ (keys_at x stage ≡ the_keys x) → keys_of x past ≡ the_keys x
-    by (inl z) = absurd (let g : None ≡ Some o = sym (offers-none setup stage past w x z s) ∙ e in cc)
+    by : (((peer x (fabric_at stage)).group ≡ 0) × (keys_at x stage ≡ no_keys)) ⊎ (keys_at x stage ≡ the_keys x) → keys_of x past ≡ the_keys x
+    by (inl z) = absurd (let g : None ≡ Some o = sym (offers-none setup stage past w x z.0 s) ∙ e in cc)
     by (inr k) = let at = w.link in at.keys x ∙ k
 
 bound-at : (x : Side) → bound 1 the_link (the_keys x).keys ≡ Some (the_key x).key

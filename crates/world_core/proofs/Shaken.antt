@@ -19,6 +19,7 @@ use Rattle.world_core.specs.Agreement.{IsOnlyLink}
 use Rattle.world_core.proofs.DataPosts.{connections-data, unseen-filter_map, no-offer}
 use Rattle.world_core.proofs.Landings.{not-dead}
 use Rattle.world_core.proofs.NewOffers.{NoOffers, OneOffer}
+use Rattle.world_core.proofs.Plain.{and-both, same-is, none-some}
 
 -- the one link
 latest-at : (stage : Stage) → (link_at 1 (fabric_at stage).latest ≡ None) ⊎ ((link_at 1 (fabric_at stage).latest ≡ Some the_link) × (is_made stage ≡ true))
@@ -43,9 +44,6 @@ only-link setup stage past at = by (latest-at stage)
 some-link : (o r : Offered) → Some o ≡ Some r → o.link ≡ the_link → r.link ≡ the_link
 some-link o r e l = sym (ap (λ (q : Option Offered). (unwrap_or q o).link) e) ∙ l
 
-pub not-none : (r : Offered) → None ≡ Some r → ⊥
-not-none r e = true≢false (sym (ap (λ (q : Option Offered). is_some q) e))
-
 pub offer-link : (k : Socket) (x : Side) (r : Offered) → offered_at k x ≡ Some r → r.link ≡ the_link
 offer-link (FirstAccepted o) B r e = some-link _ r e refl
 offer-link (FirstConfirmed o p) A r e = some-link _ r e refl
@@ -63,14 +61,14 @@ offer-link (Confirmed o p) A r e = some-link _ r e refl
 offer-link (Confirmed o p) B r e = some-link _ r e refl
 offer-link (Up o p) A r e = some-link _ r e refl
 offer-link (Up o p) B r e = some-link _ r e refl
-offer-link (FirstAccepted o) A r e = absurd (not-none r e)
-offer-link (Accepted o) A r e = absurd (not-none r e)
-offer-link (AcceptRefused o q) A r e = absurd (not-none r e)
-offer-link (AcceptFallen o) A r e = absurd (not-none r e)
-offer-link Unopened x r e = absurd (not-none r e)
-offer-link Fallen x r e = absurd (not-none r e)
-offer-link Proposed x r e = absurd (not-none r e)
-offer-link (Refused q) x r e = absurd (not-none r e)
+offer-link (FirstAccepted o) A r e = absurd (none-some r e)
+offer-link (Accepted o) A r e = absurd (none-some r e)
+offer-link (AcceptRefused o q) A r e = absurd (none-some r e)
+offer-link (AcceptFallen o) A r e = absurd (none-some r e)
+offer-link Unopened x r e = absurd (none-some r e)
+offer-link Fallen x r e = absurd (none-some r e)
+offer-link Proposed x r e = absurd (none-some r e)
+offer-link (Refused q) x r e = absurd (none-some r e)
 
 pub is-none : (o : Offered) → Some o ≡ None → ⊥
 is-none o e = true≢false (ap (λ (q : Option Offered). is_some q) e)
@@ -131,16 +129,6 @@ module _ (setup : Setup) (payload : List ℕ) (e : Entry) (past : List Entry) (b
 
   offered-one : (c : OneOffer e.event past D.posts) (x : Side) (s : ℕ) → offered x s (e ∷ past) ≡ if_there (same_side x c.y && (s == c.t)) c.offer (offered x s past)
   offered-one c x s = offered-then x s ∙ ap (λ os. option_or (head os) (offered x s past)) (c.offers x s)
-
-  same-is : (x y : Side) → same_side x y ≡ true → x ≡ y
-  same-is A A f = refl
-  same-is A B f = absurd (true≢false (sym f))
-  same-is B A f = absurd (true≢false (sym f))
-  same-is B B f = refl
-
-  and-both : (a b : Bool) → (a && b) ≡ true → (a ≡ true) × (b ≡ true)
-  and-both true b f = (refl, f)
-  and-both false b f = absurd (true≢false (sym f))
 
   -- an offer that was made stays
   pub kept-by : Choice → (x : Side) (s : ℕ) (o : Offered) → offered x s past ≡ Some o → offered x s (e ∷ past) ≡ Some o

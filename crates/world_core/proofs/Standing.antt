@@ -36,9 +36,7 @@ use Rattle.world_core.proofs.Records.{found-is, record-of-offer, all-offers}
 use Rattle.world_core.proofs.Handshaken.{shaken}
 use Rattle.world_core.proofs.Stood.{IsElement}
 use Rattle.world_core.proofs.OnWay.{carries-up, tells-next, Tells}
-
-some-message : (a b : CdcMessage) → Some a ≡ Some b → a ≡ b
-some-message a b e = cc
+use Rattle.world_core.proofs.Plain.{some-is}
 
 pub on-link-is : (o : Offered) → o.link ≡ the_link → Some o ≡ on_link o.offer
 on-link-is o e = ap (λ l. Some (record { link = l; offer = o.offer })) e
@@ -123,7 +121,7 @@ module _ (setup : Setup) (one : IsOneLink setup) (payload : List ℕ) (x : Side)
       by : (o : Offered) → offered (other x) l.s past ≡ Some o → l ≡ lends_by l.s the_link o.offer → o.offer.token ≡ m.token → (reach : ℕ) (k : CdcMessage) → next_cdc rest ≡ Some k →
           (((o.offer.token == k.token) ≡ true) × (address ≡ address_of Size (offered_place o.offer) reach) × (reach % Size + len ≤ Size) × Carries Size x (offered_place o.offer) o.offer.token (reach + len) rest (drop (half x (pipe_of setup payload 1 l.s past)).landed (half x (pipe_of setup payload 1 l.s past)).sent) (half x (pipe_of setup payload 1 l.s past)).last.told)
           ⊎ (((o.offer.token == k.token) ≡ false) × Carries Size x (offered_place o.offer) o.offer.token reach rest (drop (half x (pipe_of setup payload 1 l.s past)).landed (half x (pipe_of setup payload 1 l.s past)).sent) (half x (pipe_of setup payload 1 l.s past)).last.told) → Owned past address len rest m.token l
-      by o f li t reach k j (inr c) = absurd (true≢false (sym (eq-eqb o.offer.token k.token (t ∙ ap (λ (q : CdcMessage). q.token) (some-message m k (sym e ∙ j)))) ∙ c.0))
+      by o f li t reach k j (inr c) = absurd (true≢false (sym (eq-eqb o.offer.token k.token (t ∙ ap (λ (q : CdcMessage). q.token) (some-is m k (sym e ∙ j)))) ∙ c.0))
       by o f li t reach k j (inl c) =
           let h : Half = half x (pipe_of setup payload 1 l.s past) in
           let tells = tells-next Size x (offered_place o.offer) o.offer.token (reach + len) h.last.told rest (drop h.landed h.sent) k j c.0 c.3 in

@@ -4,7 +4,7 @@ use Rattle.std.specs.Prelude.{Option, Some, None, option_map, unwrap_or}
 use Rattle.std.specs.List.{list_any, range_with_len}
 use Rattle.std.proofs.lemmas.List.{append-nil}
 use Rattle.smc_num.specs.declared.Side.{Side}
-use Rattle.smc_num.specs.Names.{head}
+use Rattle.smc_num.specs.Names.{head, no_link}
 use Rattle.smc_num.specs.Places.{Place, same_place, all_places, is_free}
 use Rattle.element_ledger.specs.Lendings.{Row, fresh, lends, changes_at, next_lending}
 use Rattle.pipe_model.specs.declared.setup.Setup.{Setup}
@@ -12,8 +12,12 @@ use Rattle.pipe_model.specs.declared.entry.Entry.{Entry}
 use Rattle.pipe_model.specs.Words.{rmbs_of, elements_of}
 use Rattle.pipe_model.specs.Lending.{Lending, lendings, lent, lent_places, free_places}
 use Rattle.side_core.specs.Desk.{next_element}
-use Rattle.world_core.specs.Managers.{desk_of, row_of, lent_to, lending_at, lending_on, epoch_in}
+use Rattle.world_core.specs.Managers.{desk_of, row_of, lent_to, lending_at, lending_on, epoch_in, heard_on, end_of, conn_of}
 use Rattle.world_core.proofs.LentRows.{free-is}
+use Rattle.world_core.proofs.SameManagers.{SameRoute, routed-conn, conn_from, route_from}
+use Rattle.pipe_model.specs.Connections.{named_link, is_up}
+use Rattle.pipe_model.specs.Ends.{Half}
+use Rattle.side_core.specs.Records.{Connection}
 
 pub eqb-sym : (a b : ℕ) → (a == b) ≡ (b == a)
 eqb-sym a b = by (a == b) refl
@@ -176,3 +180,23 @@ module _ (setup : Setup) (payload : List ℕ) (x : Side) (past : List Entry) (on
       by : (o : Option ℕ) → next_lending (lent_to o (record (fresh p) { epoch = epoch_in p (lendings x past) })) ≡ record { rmb = p.rmb; index = p.index; epoch = epoch_in p (lendings x past) + 1 }
       by None = refl
       by (Some s) = refl
+
+-- a connection beside that of the lending
+module _ (setup : Setup) (payload : List ℕ) (x : Side) (e : Entry) (past : List Entry) (l : Lending) (one : rmbs_of setup x ≡ 1) (free : head (free_places setup payload x past) ≡ Some l.place) (all : lendings x (e ∷ past) ≡ l ∷ lendings x past) where
+  pub conn-beside : (t : ℕ) → SameRoute x (e ∷ past) past t → end_of setup payload x t (e ∷ past) ≡ end_of setup payload x t past → lending_on t (lent setup payload x (e ∷ past)) ≡ lending_on t (lent setup payload x past)
+      → conn_of setup payload x (e ∷ past) t ≡ conn_of setup payload x past t
+  conn-beside t same end lending =
+      routed-conn setup payload x (e ∷ past) past t same
+      ∙ (ap (λ (ls : List Lending). conn_from t (named_link t past) (is_up x t past) ls (heard_on x t past) (end_of setup payload x t (e ∷ past)) (lent setup payload x (e ∷ past))) all
+      ∙ (ap (λ h. conn_from t (named_link t past) (is_up x t past) (l ∷ lendings x past) (heard_on x t past) h (lent setup payload x (e ∷ past))) end
+      ∙ (ap (λ q. option_map (λ k. let c : Connection Half = record { route = route_from (named_link t past) (is_up x t past) (l ∷ lendings x past) (heard_on x t past) k; end = end_of setup payload x t past } in c) q) lending
+      ∙ by (lending_on t (lent setup payload x past)) refl)))
+    where
+      by : (q : Option Lending) → lending_on t (lent setup payload x past) ≡ q
+          → option_map (λ k. let c : Connection Half = record { route = route_from (named_link t past) (is_up x t past) (l ∷ lendings x past) (heard_on x t past) k; end = end_of setup payload x t past } in c) q
+          ≡ option_map (λ k. let c : Connection Half = record { route = route_from (named_link t past) (is_up x t past) (lendings x past) (heard_on x t past) k; end = end_of setup payload x t past } in c) q
+      by None i = refl
+      by (Some m) i =
+          let apart : same_place m.place l.place ≡ false = not-of-free t l.place (lent setup payload x past) m (free-of setup payload x past one l.place free) i in
+          ap (λ n. Some (record { route = record { link = unwrap_or (named_link t past) no_link; up = is_up x t past; element = record { rmb = m.place.rmb; index = m.place.index; epoch = n }; token = m.token; peer = heard_on x t past }; end = end_of setup payload x t past }))
+          (epoch-stays l (lendings x past) (lent setup payload x past) m apart)

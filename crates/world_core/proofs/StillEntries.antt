@@ -1,5 +1,5 @@
 -- An entry that moves no link, of plain posts: what stays of a side's desk, its lendings, and the ends.
-use Rattle.std.proofs.Common.{◌≡◌, ◌∙◌, ℕ, ◌==◌, ◌||◌, not, Bool, true, false, if◌then◌else◌, List, [], ◌∷◌, ◌++◌, length, drop, filter, filter_map, flat_map, refl, ap, sym}
+use Rattle.std.proofs.Common.{◌≡◌, ◌∙◌, ℕ, ◌==◌, ◌||◌, not, Bool, true, false, if◌then◌else◌, List, [], ◌∷◌, ◌++◌, filter, filter_map, flat_map, refl, ap, sym}
 use Rattle.std.specs.Prelude.{None, fold}
 use Rattle.smc_num.specs.declared.Side.{Side}
 use Rattle.smc_num.specs.declared.Side.TheVariants.{A, B}
@@ -27,18 +27,15 @@ use Rattle.world_core.proofs.PlainPosts.{ArePlain, plain-keys, groups-stay, pair
 use Rattle.pipe_model.specs.Messages.{act_pair}
 use Rattle.world_core.proofs.QuietEntries.{all-stay, same-group}
 use Rattle.world_core.proofs.SameManagers.{SameDesk}
+use Rattle.std.proofs.Math.Seq.{drop-length}
 
 module _ (setup : Setup) (payload : List ℕ) (past : List Entry) where
-  nothing-since : (ms : List Sent) → drop (length ms) ms ≡ []
-  nothing-since [] = refl
-  nothing-since (m ∷ ms) = nothing-since ms
-
   -- an entry that gives no items makes no end post
   module _ (q : Entry) (none : (g s : ℕ) → items payload g s q past ≡ []) where
     none-given : (x : Side) (s : ℕ) → posts_of (terms_of setup) x (items payload (group_on s past) s q past) (part payload (group_on s past) s past) ≡ []
     none-given x s =
         let before = half x (pipe (terms_of setup) (part payload (group_on s past) s past)) in
-        ap (λ (is : List Item). sent_since before (half x (pipe (terms_of setup) (is ++ part payload (group_on s past) s past)))) (none (group_on s past) s) ∙ nothing-since before.sent
+        ap (λ (is : List Item). sent_since before (half x (pipe (terms_of setup) (is ++ part payload (group_on s past) s past)))) (none (group_on s past) s) ∙ drop-length before.sent
 
     none-posts : (x : Side) (s : ℕ) → end_posts setup payload x s q past ≡ []
     none-posts x s = ap (λ (ms : List Sent). flat_map (sent_posts (element_size setup) x (offered (other x) s past) (q ∷ past)) ms) (none-given x s)

@@ -33,6 +33,7 @@ use Rattle.pipe_model.specs.Replies.{clc_told, expects, front_told, open_told}
 use Rattle.pipe_model.specs.Fallback.{front, is_opened, is_raw}
 use Rattle.pipe_model.specs.History.{Offered, offer_in, offered}
 use Rattle.smc_num.specs.Names.{head, other}
+use Rattle.world_core.proofs.Plain.{and-both}
 
 -- the early state after an entry, in a world where no group ends
 early-is : (setup : Setup) (from to : Stage) (e : Entry) (older : List Entry) → IsWorld setup from older → IsWorld setup to (e ∷ older) → (x : Side) (s : ℕ) → early_state x s (e ∷ older) ≡ after_event x s e.event e.reply (early_state x s older)
@@ -45,17 +46,13 @@ given-up FellBack state e = inl refl
 given-up (Reset cause) state e = inr (cause, refl)
 given-up _ state e = cc
 
-both-hold : (a b : Bool) → (a && b) ≡ true → (a ≡ true) × (b ≡ true)
-both-hold true b e = (refl, e)
-both-hold false b e = cc
-
 left : (x : Side) (s : ℕ) (event : Event) (reply : Reply) (state : EndState) → leaves_handshake x s event reply ≡ true → (after_event x s event reply state ≡ HasFallen) ⊎ ((cause : ResetCause) × (after_event x s event reply state ≡ WasReset cause))
 left A s (Clc t B) reply state e =
-    let both = both-hold (s == t) (gives_up reply) e in
+    let both = and-both (s == t) (gives_up reply) e in
     let here : after_event A s (Clc t B) reply state ≡ after_clc reply state = ap (λ b. if b then after_clc reply state else state) both.0 in
     elim (given-up reply state both.1) [ inl f ↦ inl (here ∙ f) | inr f ↦ inr (f.0, here ∙ f.1) ]
 left B s (Clc t A) reply state e =
-    let both = both-hold (s == t) (gives_up reply) e in
+    let both = and-both (s == t) (gives_up reply) e in
     let here : after_event B s (Clc t A) reply state ≡ after_clc reply state = ap (λ b. if b then after_clc reply state else state) both.0 in
     elim (given-up reply state both.1) [ inl f ↦ inl (here ∙ f) | inr f ↦ inr (f.0, here ∙ f.1) ]
 left A s (Clc t A) reply state e = cc

@@ -23,7 +23,7 @@ use Rattle.pipe_model.specs.declared.closing.Phase.{Phase}
 use Rattle.pipe_model.specs.declared.closing.Phase.TheVariants.{Open}
 use Rattle.pipe_model.specs.Closing.{cause_of, struck, is_closing}
 use Rattle.pipe_model.specs.Calls.{Call, Writes}
-use Rattle.pipe_model.specs.Connections.{EndState, NoEnd, WaitsProposal, WaitsAnswer, WaitsConfirm, WaitsLink, IsUp, HasFallen, WasReset, end_state, early_state, is_up, after_event, after_loss, after_clc, group_on}
+use Rattle.pipe_model.specs.Connections.{EndState, IsUp, HasFallen, end_state, early_state, is_up, after_event, after_loss, after_clc, group_on}
 use Rattle.pipe_model.specs.Fabric.{loses_group_with}
 use Rattle.pipe_model.specs.Fallback.{Whole, NoMessage, Queues, front, front_of, front_length, clc_in, fallen_call, fallen_write, has_finished, is_fallen, is_fallen_state, is_opened, is_raw, own_phase, peer_did, queue_told, queues, read_out, stream, stream_room, takes_clc, takes_message, untaken, written}
 use Rattle.pipe_model.specs.Replies.{call_told, end_told, expects, fallen_told, front_told, open_told, told}
@@ -32,12 +32,13 @@ use Rattle.world_core.specs.Played.{IsBuilt, IsMade, IsOneLink, IsPlayed}
 use Rattle.world_core.specs.Sockets.{Accepted, AcceptFallen, AcceptRefused, AwaitsLink, Confirmed, Fallen, FirstAccepted, FirstConfirmed, FirstUp, FirstUpAtA, Proposed, Refused, Socket, StandsAt, Unopened, Up, early_at, end_at, opened_at, untaken_at}
 use Rattle.world_core.specs.Sending.{acting_side}
 use Rattle.world_core.proofs.ClcLengths.{IsMeasured, measured-new, first-measured}
-use Rattle.world_core.proofs.ClcPosts.{IsAsked, News, NoNews, OneNews, both-true, news, no-clc-posts, none-in, puts, same-side}
+use Rattle.world_core.proofs.ClcPosts.{IsAsked, News, NoNews, OneNews, news, no-clc-posts, none-in, puts}
 use Rattle.world_core.specs.Streams.{may_post_clc}
 use Rattle.world_core.proofs.Openings.{early-apart}
 use Rattle.world_core.proofs.PlayedWorlds.{played}
-use Rattle.world_core.proofs.QuietEvents.{by-side, if-same}
+use Rattle.world_core.proofs.QuietEvents.{by-side}
 use Rattle.world_core.proofs.TakenMessages.{end-is}
+use Rattle.world_core.proofs.Plain.{if-same, and-both, same-is, plus-none}
 
 pub other-other : (x : Side) → other (other x) ≡ x
 other-other A = refl
@@ -46,14 +47,6 @@ other-other B = refl
 pub not-other : (x : Side) → x ≡ other x → ⊥
 not-other A e = cc
 not-other B e = cc
-
-pub same-itself : (x : Side) → same_side x x ≡ true
-same-itself A = refl
-same-itself B = refl
-
-pub apart-sides : (x : Side) → same_side x (other x) ≡ false
-apart-sides A = refl
-apart-sides B = refl
 
 -- the peer of an end that has fallen back sent no message that it has not taken
 heard : (setup : Setup) (k : Socket) (y : Side) → is_fallen_state (end_at k y) ≡ true → untaken_at setup k (other y) ≡ []
@@ -130,14 +123,8 @@ not-up (Up o p) A e = ap is_fallen_state e
 not-up (Up o p) B e = ap is_fallen_state e
 
 pub state-fallen : (state : EndState) → is_fallen_state state ≡ true → state ≡ HasFallen
-state-fallen NoEnd e = cc
-state-fallen WaitsProposal e = cc
-state-fallen WaitsAnswer e = cc
-state-fallen WaitsConfirm e = cc
-state-fallen WaitsLink e = cc
-state-fallen IsUp e = cc
 state-fallen HasFallen e = refl
-state-fallen (WasReset cause) e = cc
+state-fallen _ e = cc
 
 down-fallen : (up : Bool) (state : EndState) → (if up then IsUp else state) ≡ HasFallen → state ≡ HasFallen
 down-fallen true state e = cc
@@ -322,7 +309,7 @@ module _ (setup : Setup) (one : IsOneLink setup) (payload : List ℕ) where
             name-used u o = ap (λ b. if b || is_raw u past then NameUsed else if not (slice_index_or setup.capable 0 false && slice_index_or setup.capable 1 false) then Declined (NotCapable (slice_index_or setup.capable 0 false) (slice_index_or setup.capable 1 false)) else Opened) o
 
         by_clc : (t : ℕ) (dir : Side) → e.event ≡ Clc t dir → (b c : Bool) → (s == t) ≡ b → same_side x dir ≡ c → after_event x s (Clc t dir) e.reply HasFallen ≡ HasFallen
-        by_clc t dir is b true g h = own x dir (same-side x dir h)
+        by_clc t dir is b true g h = own x dir (same-is x dir h)
           where
             own : (y d : Side) → y ≡ d → after_event y s (Clc t d) e.reply HasFallen ≡ HasFallen
             own A A i = refl
@@ -436,9 +423,9 @@ module _ (setup : Setup) (one : IsOneLink setup) (payload : List ℕ) where
         by_clc : (t : ℕ) (dir : Side) → e.event ≡ Clc t dir → (b : Bool) → takes_clc x s (Clc t dir) e.reply ≡ b → Moving x s
         by_clc t dir is false g = by-news x s (takes-as (Clc t dir) is ∙ g) (reads-as (Clc t dir) is) (writes-as (Clc t dir) is ∙ clc-writes payload x s t dir e.reply past)
         by_clc t dir is true g =
-            let both = both-true (s == t) (same_side x dir && takes_message e.reply) g in
-            let rest = both-true (same_side x dir) (takes_message e.reply) both.1 in
-            let side : x ≡ dir = same-side x dir rest.0 in
+            let both = and-both (s == t) (same_side x dir && takes_message e.reply) g in
+            let rest = and-both (same_side x dir) (takes_message e.reply) both.1 in
+            let side : x ≡ dir = same-is x dir rest.0 in
             let socket : s ≡ t = eqb-true s t both.0 in
             let w = taken-waits t dir is rest.1 in
             let there : untaken x s past ≡ w.0 ∷ [] = ap (λ y. untaken y s past) side ∙ (ap (λ r. untaken dir r past) socket ∙ w.1) in
@@ -453,8 +440,8 @@ module _ (setup : Setup) (one : IsOneLink setup) (payload : List ℕ) where
             Grows [] (takes-as (Read end len) is) (reads-as (Read end len) is ∙ (read-by x s end len e.reply past ∙ ap (λ b. if b then taken-of e.reply else 0) g)) (none-posted (Read end len) is refl)
             (writes-as (Read end len) is ∙ read-writes payload x s end len e.reply past) (λ f. refl) (omega arith)
         by_read end len is true g =
-            let both = both-true (same_side (other x) end.side) ((s == end.s) && is_fallen (other x) s past) g in
-            let rest = both-true (s == end.s) (is_fallen (other x) s past) both.1 in
+            let both = and-both (same_side (other x) end.side) ((s == end.s) && is_fallen (other x) s past) g in
+            let rest = and-both (s == end.s) (is_fallen (other x) s past) both.1 in
             Reads-out (taken-of e.reply) (takes-as (Read end len) is) (reads-as (Read end len) is ∙ (read-by x s end len e.reply past ∙ ap (λ b. if b then taken-of e.reply else 0) g)) (none-posted (Read end len) is refl)
             (writes-as (Read end len) is ∙ read-writes payload x s end len e.reply past) rest.1
 
@@ -463,13 +450,13 @@ module _ (setup : Setup) (one : IsOneLink setup) (payload : List ℕ) where
             Grows [] (takes-as (Write end at len) is) (reads-as (Write end at len) is) (none-posted (Write end at len) is refl)
             (writes-as (Write end at len) is ∙ (written-by payload x s end at len e.reply past ∙ ap (λ b. if b then put-of e.reply (drop at payload) else []) g)) (λ f. refl) (omega arith)
         by_write end at len is true g =
-            let both = both-true (same_side x end.side) ((s == end.s) && is_fallen x s past) g in
-            let rest = both-true (s == end.s) (is_fallen x s past) both.1 in
+            let both = and-both (same_side x end.side) ((s == end.s) && is_fallen x s past) g in
+            let rest = and-both (s == end.s) (is_fallen x s past) both.1 in
             let bytes : List ℕ = take (stream_room - length (stream payload x s past)) (take len (drop at payload)) in
             let long = length-take (stream_room - length (stream payload x s past)) (take len (drop at payload)) in
             let low = min-le_left (stream_room - length (stream payload x s past)) (length (take len (drop at payload))) in
             Grows bytes (takes-as (Write end at len) is) (reads-as (Write end at len) is) (none-posted (Write end at len) is refl)
-            (writes-as (Write end at len) is ∙ (written-by payload x s end at len e.reply past ∙ (ap (λ b. if b then put-of e.reply (drop at payload) else []) g ∙ put end at len is (same-side x end.side both.0) (eqb-true s end.s rest.0) rest.1)))
+            (writes-as (Write end at len) is ∙ (written-by payload x s end at len e.reply past ∙ (ap (λ b. if b then put-of e.reply (drop at payload) else []) g ∙ put end at len is (same-is x end.side both.0) (eqb-true s end.s rest.0) rest.1)))
             (λ f. absurd (true≢false (sym rest.1 ∙ f))) (omega (arith, long, low))
           where
             put : (end : End) (at len : ℕ) → e.event ≡ Write end at len → x ≡ end.side → s ≡ end.s → is_fallen x s past ≡ true
@@ -526,9 +513,6 @@ module _ (setup : Setup) (one : IsOneLink setup) (payload : List ℕ) where
   pub front-whole : (past : List Entry) (n : ℕ) → IsPlayed setup payload past n → (x : Side) (s : ℕ) (m : ClcMessage) → untaken x s past ≡ m ∷ [] → front payload x s past ≡ Whole m (clc_length m)
   front-whole past n q x s m u =
       ap (λ b. front_of b (stream payload x s past) (untaken x s past)) (never-raw past n q s) ∙ ap (λ ms. front_of false (stream payload x s past) ms) u
-
-  pub plus-none : (k : ℕ) → k + 0 ≡ k
-  plus-none k = omega arith
 
   pub zero-plus : (k : ℕ) → 0 + k ≡ k
   zero-plus k = omega arith
@@ -632,4 +616,4 @@ unfallen-reads x s end len reply past f = read-by x s end len reply past ∙ ap 
     by true true h g =
         ap (λ a. a && ((s == end.s) && is_fallen (other x) s past)) h
         ∙ (ap (λ b. b && is_fallen (other x) s past) g
-        ∙ (ap (λ y. is_fallen y s past) (same-side (other x) end.side h) ∙ (ap (λ r. is_fallen end.side r past) (eqb-true s end.s g) ∙ f)))
+        ∙ (ap (λ y. is_fallen y s past) (same-is (other x) end.side h) ∙ (ap (λ r. is_fallen end.side r past) (eqb-true s end.s g) ∙ f)))

@@ -35,7 +35,8 @@ use Rattle.world_core.specs.WireSteps.{EachPost}
 use Rattle.world_core.specs.declared.host.Outflow.{Outflow}
 use Rattle.world_core.proofs.ClcLengths.{IsMeasured, measured-new}
 use Rattle.world_core.proofs.ClcPosts.{IsAsked, News, NoClc, NoNews, OneNews, Puts, PutsNone, PutsOne, news, no-clc-posts, none-in, none-offered, none-put, one-in, puts as puts-of}
-use Rattle.world_core.proofs.StreamFronts.{apart-sides, clc-writes, complete-writes, deliver-writes, fallen-call-told, fallen-heard-all, few-untaken, flowed, flowed-is, front-is-untaken, front-whole, not-other, open-writes, other-other, plus-none, put-of, read-by, read-writes, same-itself, taken-of, told-is, waits-is, written-by, wrote-is, zero-plus}
+use Rattle.world_core.proofs.StreamFronts.{clc-writes, complete-writes, deliver-writes, fallen-call-told, fallen-heard-all, few-untaken, flowed, flowed-is, front-is-untaken, front-whole, not-other, open-writes, other-other, put-of, read-by, read-writes, taken-of, told-is, waits-is, written-by, wrote-is, zero-plus}
+use Rattle.world_core.proofs.Plain.{and-false, same-self, apart-sides, plus-none}
 
 -- a post that is no message of a side on a socket makes no offer for it
 no-offer-apart : (x : Side) (s : ℕ) (y : Side) (t : ℕ) (link : Option LinkId) (m : ClcMessage) → (same_side x y && (s == t)) ≡ false → offer_in x s (Clc y t link m) ≡ None
@@ -73,10 +74,6 @@ alone (k ∷ ks) m h d = ap (λ j. j ∷ ks) (some-is k m h) ∙ ap (λ js. m �
   where
     some-is : (a b : ClcMessage) → Some a ≡ Some b → a ≡ b
     some-is a b e = cc
-
-and-else : (b : Bool) → (b && false) ≡ false
-and-else true = refl
-and-else false = refl
 
 -- the streams of a side after a history
 abbrev pub Flowing : List ℕ → ℕ → Side → List Entry → List Outflow → Type 0
@@ -120,7 +117,7 @@ module _ (setup : Setup) (one : IsOneLink setup) (payload : List ℕ) where
 
         by : (event : Event) → IsBuilt setup (length payload) event → takes_clc (acting_side event) s event e.reply ≡ false
         by (Open t) b = refl
-        by (ClcEvent t dir) b = ap (λ c. (s == t) && (c && takes_message e.reply)) (opposite dir) ∙ and-else (s == t)
+        by (ClcEvent t dir) b = ap (λ c. (s == t) && (c && takes_message e.reply)) (opposite dir) ∙ and-false (s == t)
         by (Write end at len) b = refl
         by (Read end len) b = refl
         by (Deliver slot dir) b = refl
@@ -157,7 +154,7 @@ module _ (setup : Setup) (one : IsOneLink setup) (payload : List ℕ) where
         let empty : stream payload x s past ≡ [] = front-is-untaken setup one payload past p.0 p.3 x s a.unfallen ∙ ap (λ ms. flat_map clc_bytes ms) a.taken in
         let t : takes_clc x s e.event e.reply ≡ false = ap (λ y. takes_clc y s e.event e.reply) acts ∙ own-takes s in
         let r : read_out x s e.event e.reply past ≡ 0 = ap (λ y. read_out y s e.event e.reply past) acts ∙ own-reads s in
-        let mine : (same_side x x && (s == s)) ≡ true = ap (λ b. b && (s == s)) (same-itself x) ∙ eq-eqb s s refl in
+        let mine : (same_side x x && (s == s)) ≡ true = ap (λ b. b && (s == s)) (same-self x) ∙ eq-eqb s s refl in
         let posted : filter_map (clc_in x s) e.posts ≡ m ∷ [] = ap (λ ps. filter_map (clc_in x s) ps) is ∙ (one-in x s x s link m more none ∙ ap (λ b. if b then m ∷ [] else []) mine) in
         let g : stream payload x s (e ∷ past) ≡ clc_bytes m =
         flowed-is setup one payload x s e past false 0 (m ∷ []) [] [] t r posted w empty ∙ (append-nil (clc_bytes m ++ []) ∙ append-nil (clc_bytes m)) in
@@ -201,7 +198,7 @@ module _ (setup : Setup) (one : IsOneLink setup) (payload : List ℕ) where
                 (stays x s (outflow_at s flows) (own-takes s) (own-reads s) apart (w s) (are s low))
               where
                 apart : filter_map (clc_in x s) e.posts ≡ []
-                apart = ap (λ ps. filter_map (clc_in x s) ps) is ∙ (one-in x s x t link m more none ∙ (ap (λ b. if same_side x x && b then m ∷ [] else []) g ∙ ap (λ b. if b then m ∷ [] else []) (and-else (same_side x x))))
+                apart = ap (λ ps. filter_map (clc_in x s) ps) is ∙ (one-in x s x t link m more none ∙ (ap (λ b. if same_side x x && b then m ∷ [] else []) g ∙ ap (λ b. if b then m ∷ [] else []) (and-false (same_side x x))))
 
     -- a message that is posted has room
     pub room-for-clc : (s : ℕ) (m : ClcMessage) → filter_map (clc_in (acting_side e.event) s) e.posts ≡ m ∷ [] → length (clc_bytes m) ≤ stream_room - length (stream payload (acting_side e.event) s past)
@@ -262,7 +259,7 @@ module _ (setup : Setup) (one : IsOneLink setup) (payload : List ℕ) where
         let told : e.reply ≡ fallen_write false (stream_room - length (stream payload end.side end.s past)) (length (take len (drop at payload))) OpenPhase =
         told-is setup one payload e past n p (Write end at len) is ∙ ap (λ t. reply_of p.0 t) (fallen-call-told setup one payload past p.0 p.3 end (Writes (take len (drop at payload))) f) in
         let mine : (same_side end.side end.side && ((end.s == end.s) && is_fallen end.side end.s past)) ≡ true =
-        ap (λ b. b && ((end.s == end.s) && is_fallen end.side end.s past)) (same-itself end.side) ∙ (ap (λ b. b && is_fallen end.side end.s past) (eq-eqb end.s end.s refl) ∙ f) in
+        ap (λ b. b && ((end.s == end.s) && is_fallen end.side end.s past)) (same-self end.side) ∙ (ap (λ b. b && is_fallen end.side end.s past) (eq-eqb end.s end.s refl) ∙ f) in
         ap (λ v. written payload end.side end.s v e.reply past) is
         ∙ (written-by payload end.side end.s end at len e.reply past
         ∙ (ap (λ b. if b then put-of e.reply (drop at payload) else []) mine
@@ -317,7 +314,7 @@ module _ (setup : Setup) (one : IsOneLink setup) (payload : List ℕ) where
             (stays end.side s (outflow_at s flows) (takes-none s) (reads-none s) (posts-none s)
             (ap (λ v. written payload end.side s v e.reply past) is ∙ (written-by payload end.side s end at len e.reply past
             ∙ (ap (λ b. if same_side end.side end.side && (b && is_fallen end.side s past) then put-of e.reply (drop at payload) else []) g
-            ∙ ap (λ b. if b then put-of e.reply (drop at payload) else []) (and-else (same_side end.side end.side)))))
+            ∙ ap (λ b. if b then put-of e.reply (drop at payload) else []) (and-false (same_side end.side end.side)))))
             (are s low))
 
     -- the message that waits is taken out of the peer's stream
@@ -343,7 +340,7 @@ module _ (setup : Setup) (one : IsOneLink setup) (payload : List ℕ) where
         takes-at : (r : ℕ) (b : Bool) → (r == t) ≡ b → takes_clc x r e.event e.reply ≡ b
         takes-at r b g =
             ap (λ v. takes_clc x r v e.reply) is
-            ∙ (ap (λ c. c && (same_side x x && takes_message e.reply)) g ∙ (ap (λ c. b && (c && takes_message e.reply)) (same-itself x) ∙ (ap (λ c. b && c) takes ∙ and-true b)))
+            ∙ (ap (λ c. c && (same_side x x && takes_message e.reply)) g ∙ (ap (λ c. b && (c && takes_message e.reply)) (same-self x) ∙ (ap (λ c. b && c) takes ∙ and-true b)))
           where
             and-true : (c : Bool) → (c && true) ≡ c
             and-true true = refl
@@ -358,7 +355,7 @@ module _ (setup : Setup) (one : IsOneLink setup) (payload : List ℕ) where
             let g : stream payload x t (e ∷ past) ≡ drop (clc_length m) (stream payload x t past) =
             flowed-is setup one payload x t e past true 0 [] [] (stream payload x t past) takes-it (reads-none t) (their-posts x t acts) (their-writes x t acts) refl
             ∙ (ap (λ fr. flowed setup one payload true (front_length fr) 0 [] [] (stream payload x t past)) (front-whole setup one payload past p.0 p.3 x t m waits)
-            ∙ (append-nil (drop (clc_length m + 0) (stream payload x t past)) ∙ ap (λ k. drop k (stream payload x t past)) (plus-none setup one payload (clc_length m)))) in
+            ∙ (append-nil (drop (clc_length m + 0) (stream payload x t past)) ∙ ap (λ k. drop k (stream payload x t past)) (plus-none (clc_length m)))) in
             let u : untaken x t (e ∷ past) ≡ [] = waits-is setup one payload x t e past true [] (m ∷ []) takes-it (their-posts x t acts) waits in
             record {
               held = ap (λ (d : Direction). record d { held = drop (clc_length m) d.held }) was.held ∙ ap (λ bs. record { held = bs; ended = false; reset = false }) (sym g);
@@ -397,7 +394,7 @@ module _ (setup : Setup) (one : IsOneLink setup) (payload : List ℕ) where
         takes-none r = ap (λ v. takes_clc x r v e.reply) is
 
         mine : same_side (other x) end.side ≡ true
-        mine = ap (λ y. same_side y end.side) (other-other end.side) ∙ same-itself end.side
+        mine = ap (λ y. same_side y end.side) (other-other end.side) ∙ same-self end.side
 
         reads-at : (r : ℕ) (b : Bool) → (r == end.s) ≡ b → read_out x r e.event e.reply past ≡ (if b && is_fallen (other x) r past then k else 0)
         reads-at r b g =

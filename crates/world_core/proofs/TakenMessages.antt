@@ -53,7 +53,7 @@ pub record Takes (setup : Setup) (payload : List ℕ) (t : ℕ) (dir : Side) (ol
 pub end-is : (setup : Setup) (k : Socket) (s : ℕ) (past : List Entry) → StandsAt setup k s past → (x : Side) → end_state x s past ≡ end_at k x
 end-is setup k s past at x = ap (λ b. if b then IsUp else early_state x s past) (at.up x) ∙ ap (λ e. if up_at k x then IsUp else e) (at.early x)
 
-front-is : (setup : Setup) (payload : List ℕ) (k : Socket) (t : ℕ) (dir : Side) (older : List Entry) → StandsAt setup k t older → front payload dir t older ≡ front_of_posts (head (untaken_at setup k dir))
+pub front-is : (setup : Setup) (payload : List ℕ) (k : Socket) (t : ℕ) (dir : Side) (older : List Entry) → StandsAt setup k t older → front payload dir t older ≡ front_of_posts (head (untaken_at setup k dir))
 front-is setup payload k t dir older at =
     ap (λ b. front_of b (stream payload dir t older) (untaken dir t older)) at.raw
     ∙ ap (λ (ms : List ClcMessage). front_of_posts (head ms)) (at.messages dir)
@@ -64,7 +64,7 @@ told-is setup payload k t dir older at =
     ap (λ e. if expects e then front_told setup payload (other dir) t older (front payload dir t older) else Idle) (end-is setup k t older at (other dir))
     ∙ ap (λ f. if expects (end_at k (other dir)) then front_told setup payload (other dir) t older f else Idle) (front-is setup payload k t dir older at)
 
-verdict-is : (setup : Setup) (payload : List ℕ) (k : Socket) (t : ℕ) (x : Side) (older : List Entry) (m : ClcMessage) (step : ClcStep) → StandsAt setup k t older
+pub verdict-is : (setup : Setup) (payload : List ℕ) (k : Socket) (t : ℕ) (x : Side) (older : List Entry) (m : ClcMessage) (step : ClcStep) → StandsAt setup k t older
     → verdict false (end_at k x) m (lacks setup payload x older) ≡ step → clc_step setup payload x t m older ≡ step
 verdict-is setup payload k t x older m step at e =
     ap (λ b. verdict b (end_state x t older) m (lacks setup payload x older)) at.raw

@@ -55,11 +55,11 @@ use Rattle.world_core.proofs.EndRecords.{state-is}
 use Rattle.world_core.proofs.HostsAfter.{if-none, hosts-after}
 use Rattle.world_core.proofs.TakenAlone.{paths_of}
 use Rattle.world_core.proofs.HostsOn.{PlaysBy, own-sent, own-kept, theirs-then, may-go}
-use Rattle.world_core.proofs.MovedWires.{twice}
 use Rattle.world_core.proofs.StreamsAfter.{Flowing, their-flows, their-taken}
 use Rattle.world_core.proofs.ClcTaken.{IsTaken, link_with, link_of, held}
 use Rattle.world_core.proofs.TakenMessagesAll.{paths-up, taken, idle}
 use Rattle.world_core.proofs.MayTakes.{MayMake as MayMakeAt, may-take, can-make, told-kept, would-take, would-idle}
+use Rattle.world_core.proofs.Plain.{and-false, twice}
 
 -- what an end is to take, by its state
 pub due-some : (st : EndState) (f : Outflow) (u : Untaken) → due_of (seen_state st) f ≡ Some u → (expects st ≡ true) × (f.next ≡ Some u)
@@ -135,10 +135,6 @@ made-alike _ link m is = refl
 may-make : (r : Reply) (link : Option LinkId) (d : Desk) → (r ≡ Sent ConfirmSent → (link ≡ Some the_link) × CanMake the_link d) → MayMake (link_made_by r link) d
 may-make (Sent ConfirmSent) link d is = let f = is refl in subst (λ (o : Option LinkId). MayMake o d) (sym f.0) f.1
 may-make _ link d is = tt
-
-no-and : (b : Bool) → (b && false) ≡ false
-no-and true = refl
-no-and false = refl
 
 module _ (setup : Setup) (payload : List ℕ) (past : List Entry) (heard s : ℕ) (dir : Side) (own theirs : Host) (before : AreHostsAfter setup payload past heard (other dir) own theirs) (known : s < setup.sockets) where
   pub own-is : state_at s own.core ≡ end_state (other dir) s past
@@ -260,7 +256,7 @@ module _ (setup : Setup) (payload : List ℕ) (past : List Entry) (heard s : ℕ
       let set = before.set in
       let h = before.theirs in
       their-flows setup set.one payload (entry_of setup payload past heard actor (Clc s dir)) past (heard + 0) (plays actor) (other (other dir)) (twice (other dir)) theirs.flows.items
-      (λ t. ap (λ b. (t == s) && (same_side (other (other dir)) dir && b)) none ∙ (ap (λ b. (t == s) && b) (no-and (same_side (other (other dir)) dir)) ∙ no-and (t == s)))
+      (λ t. ap (λ b. (t == s) && (same_side (other (other dir)) dir && b)) none ∙ (ap (λ b. (t == s) && b) (and-false (same_side (other (other dir)) dir)) ∙ and-false (t == s)))
       (λ t. refl) h.flows
 
   module _ (few : length past < 2 ^ 18) where

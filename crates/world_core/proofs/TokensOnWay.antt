@@ -1,5 +1,5 @@
 -- A wire carries no bytes under a token that was not offered, so that a new offer finds none; and what then holds after every played history.
-use Rattle.std.proofs.Common.{◌≡◌, ◌∙◌, ◌==◌, ◌⊎◌, inl, inr, ℕ, ◌+◌, Bool, true, false, List, [], ◌∷◌, ◌++◌, zero, suc, drop, filter, refl, ap, sym, subst, true≢false, arith}
+use Rattle.std.proofs.Common.{◌≡◌, ◌∙◌, ◌==◌, ◌⊎◌, inl, inr, ℕ, ◌+◌, Bool, true, false, List, [], ◌∷◌, ◌++◌, drop, filter, refl, ap, sym, subst, true≢false, arith}
 use Rattle.std.specs.Prelude.{Option, Some, None, is_some}
 use Rattle.smc_num.specs.declared.Side.{Side}
 use Rattle.smc_num.specs.declared.Side.TheVariants.{A, B}
@@ -10,7 +10,6 @@ use Rattle.pipe_model.specs.declared.setup.Setup.{Setup}
 use Rattle.pipe_model.specs.declared.post.Post.{Post}
 use Rattle.pipe_model.specs.declared.post.Post.TheVariants.{Write, Cdc, Llc, Clc}
 use Rattle.pipe_model.specs.declared.entry.Entry.{Entry}
-use Rattle.pipe_model.specs.declared.sent.Sent.{Sent}
 use Rattle.pipe_model.specs.Words.{element_size, elements_of}
 use Rattle.pipe_model.specs.History.{Offered, offered}
 use Rattle.pipe_model.specs.Wires.{is_on}
@@ -27,7 +26,7 @@ use Rattle.world_core.specs.WireSteps.{leaving, Way}
 use Rattle.world_core.specs.Agreement.{PostsOne, IsElse, GoesOn}
 use Rattle.world_core.specs.Landed.{waiting_posts, peer_buffer, buffer_of, Stand, GoOn, Follows, Carries, Reaches, IsRmb}
 use Rattle.world_core.proofs.Handshaken.{shaken, has-offers, gives-items}
-use Rattle.world_core.proofs.Agreement.{agrees, else-before, new-token, new-end}
+use Rattle.world_core.proofs.Agreement.{agrees, else-before, new-token, new-end, nothing-left}
 use Rattle.world_core.proofs.Batched.{Posts, new-unlanded}
 use Rattle.world_core.proofs.Carrying.{drop-none}
 use Rattle.world_core.proofs.Follows.{follows}
@@ -36,11 +35,7 @@ use Rattle.world_core.proofs.News.{strange-news, IsElses, some-bytes}
 use Rattle.world_core.proofs.Parts.{part-open}
 use Rattle.world_core.proofs.Standing.{AllReach}
 use Rattle.world_core.proofs.Landed.{rmb-on, reach-on}
-
-drop-no-sent : (i : ℕ) (ms : List Sent) → ms ≡ [] → drop i ms ≡ []
-drop-no-sent zero [] e = refl
-drop-no-sent (suc i) [] e = refl
-drop-no-sent i (m ∷ ms) e = absurd (true≢false (ap (λ ks. is_some (head ks)) e))
+use Rattle.world_core.proofs.Plain.{some-is}
 
 -- of posts that carry nothing the first leaves
 first-leaves : (size : ℕ) (x : Side) (place : Place) (token : ℕ) (post : Post) (posts : List Post) → Carries size x place token 0 (post ∷ posts) [] 0 → Carries size x place token 0 posts [] 0
@@ -114,7 +109,7 @@ module _ (setup : Setup) (one : IsOneLink setup) (payload : List ℕ) (x : Side)
         let cs = (let a = agrees setup payload (e ∷ past) n p sh in a.part_can_be s) in
         let fs : Follows h k = follows (terms_of setup) x (part payload 1 s (e ∷ past)) (part-open setup payload 1 s (e ∷ past) n p sh) cs.feasible cs.whole in
         let last : 0 ≡ h.last.told = subst (λ ms. GoOn 0 ms h.last.told) idle fs.0 in
-        let left : drop h.landed h.sent ≡ [] = drop-no-sent h.landed h.sent idle in
+        let left : drop h.landed h.sent ≡ [] = nothing-left h.landed h.sent idle in
         let taken : k.taken.told ≡ h.last.told = subst (λ ms. GoOn k.taken.told ms h.last.told) left fs.1 in
         let c = strange-on o.offer.token (offered_place o.offer) (new-token setup (other x) s o e past sh.0 go f none) in
         record {
@@ -124,9 +119,6 @@ module _ (setup : Setup) (one : IsOneLink setup) (payload : List ℕ) (x : Side)
           told = omega (arith, taken, last);
           stand = λ i above below. absurd (omega (arith, below));
         }
-
-  some-offer : (a b : Offered) → Some a ≡ Some b → a ≡ b
-  some-offer a b e = cc
 
   -- after every played history
   pub all-reach : (past : List Entry) (n : ℕ) → IsPlayed setup payload past n → AllReach setup one payload x past × (IsRmb setup (other x) (peer_buffer setup payload x past) × AllStrange past)
@@ -145,7 +137,7 @@ module _ (setup : Setup) (one : IsOneLink setup) (payload : List ℕ) (x : Side)
       by s o f None g all is strange = new-reaches e past n p strange s o f g
       by s o f (Some r) g all is strange =
           let kept = go e past n p strange in
-          subst (λ (q : Offered). Reaches setup payload x s q (e ∷ past)) (some-offer r o (sym (kept.kept (other x) s r g) ∙ f)) (reach-on setup one payload x e past n p all is s r g)
+          subst (λ (q : Offered). Reaches setup payload x s q (e ∷ past)) (some-is r o (sym (kept.kept (other x) s r g) ∙ f)) (reach-on setup one payload x e past n p all is s r g)
 
 module _ (setup : Setup) (one : IsOneLink setup) (payload : List ℕ) where
   pub bytes-reach : (past : List Entry) (n : ℕ) → IsPlayed setup payload past n → (x : Side) (s : ℕ) (o : Offered) → offered (other x) s past ≡ Some o → Reaches setup payload x s o past

@@ -1,5 +1,5 @@
 -- Where the one link is not made, nothing of a side is under way on it.
-use Rattle.std.proofs.Common.{◌≡◌, ◌∙◌, ◌⊎◌, inl, inr, ℕ, ◌+◌, ◌-◌, ◌≤◌, Bool, true, false, List, [], ◌∷◌, ◌++◌, length, take, drop, map, filter, refl, ap, sym, ◌&&◌, true≢false, arith, length-append, suc, zero, eq-eqb, ◌==◌}
+use Rattle.std.proofs.Common.{◌≡◌, ◌∙◌, ◌⊎◌, inl, inr, ℕ, ◌+◌, ◌-◌, ◌≤◌, Bool, true, false, List, [], ◌∷◌, ◌++◌, length, map, filter, refl, ap, sym, ◌&&◌, true≢false, arith, length-append, eq-eqb, ◌==◌}
 use Rattle.std.specs.Prelude.{Option, Some, None, is_some}
 use Rattle.std.specs.List.{cons_option}
 use Rattle.smc_num.specs.declared.Side.{Side}
@@ -13,54 +13,34 @@ use Rattle.pipe_model.specs.declared.post.Post.{Post}
 use Rattle.pipe_model.specs.declared.post.Post.TheVariants.{Write, Cdc, Llc, Clc}
 use Rattle.pipe_model.specs.declared.post.Placed.{Placed}
 use Rattle.pipe_model.specs.declared.entry.Entry.{Entry}
-use Rattle.pipe_model.specs.declared.sent.Sent.{Sent}
 use Rattle.pipe_model.specs.Words.{element_size}
 use Rattle.pipe_model.specs.History.{Offered, offered}
 use Rattle.pipe_model.specs.Fabric.{Fabric, latest}
 use Rattle.pipe_model.specs.Wires.{is_on, completes_later, unlanded, uncompleted}
-use Rattle.pipe_model.specs.Ends.{Half, to_land, to_complete}
 use Rattle.pipe_model.specs.Pipe.{half}
 use Rattle.pipe_model.specs.Connections.{is_up, part}
 use Rattle.pipe_model.specs.Lending.{terms_of, pipe_of}
 use Rattle.world_core.specs.Played.{IsOneLink, IsPlayed}
 use Rattle.world_core.specs.OneLink.{Stage, NoLink, Begun, Made, Asking, LiveAtA, LiveAtBoth, fabric_at, waiting_at, the_link, llc_waiting}
-use Rattle.world_core.specs.Wired.{cdc_under, if_meant, cdcs, message, returning, IsCarried}
+use Rattle.world_core.specs.Wired.{cdc_under, if_meant, cdcs, message, IsCarried}
 use Rattle.world_core.specs.WireSteps.{EachPlaced}
 use Rattle.world_core.specs.Agreement.{HasOffers, IsElse, Agree}
 use Rattle.world_core.proofs.Idle.{idle}
 use Rattle.world_core.proofs.Parts.{part-open}
 use Rattle.world_core.proofs.UpEnds.{pipe-is-up}
-use Rattle.world_core.proofs.Agreement.{agrees}
+use Rattle.world_core.proofs.Agreement.{agrees, lands-nothing, returns-nothing}
 use Rattle.world_core.proofs.Heads.{unlanded-there, uncompleted-there, Gave, gave}
 use Rattle.world_core.proofs.PlayedWorlds.{played}
 use Rattle.world_core.proofs.Handshaken.{shaken, has-offers}
 use Rattle.world_core.proofs.LinkFacts.{is_live_at, live-where-up}
 use Rattle.world_core.proofs.Batched.{cdc_count, batched-all, count-append, Posts, queue}
 use Rattle.world_core.proofs.Counts.{queue-batched, all-under-way}
-
--- an end that has sent nothing has nothing under way
-nothing-left : (n : ℕ) (ms : List Sent) → ms ≡ [] → drop n ms ≡ []
-nothing-left zero ms e = ap (λ ns. drop 0 ns) e
-nothing-left (suc n) ms e = ap (λ ns. drop (suc n) ns) e
-
-nothing-taken : (n : ℕ) (ms : List Sent) → ms ≡ [] → take n ms ≡ []
-nothing-taken zero ms e = ap (λ ns. take 0 ns) e
-nothing-taken (suc n) ms e = ap (λ ns. take (suc n) ns) e
-
-pub lands-nothing : (h : Half) → h.sent ≡ [] → to_land h ≡ []
-lands-nothing h e = nothing-left h.landed h.sent e
-
-pub returns-nothing : (h : Half) → h.sent ≡ [] → returning h ≡ []
-returns-nothing h e = nothing-taken (h.landed - h.completed) (to_complete h) (nothing-left h.completed h.sent e)
+use Rattle.world_core.proofs.Plain.{and-left}
 
 -- posts of a side on a link among which there is no CDC message under any token
 module _ (x : Side) where
   abbrev IsThere : Placed → Type 0
   IsThere c = is_on the_link x c.post ≡ true
-
-  and-left : (a b : Bool) → (a && b) ≡ true → a ≡ true
-  and-left true b e = refl
-  and-left false b e = e
 
   own : (from : Side) (l : LinkId) (m : CdcMessage) → is_on the_link x (Cdc from l m) ≡ true → cdc_under x m.token (Cdc from l m) ≡ Some m
   own from l m there =

@@ -38,7 +38,7 @@ pub data OnAccept (none : Bool) (step : ClcStep) : Type 0 where
   refuses : (lack : Lack) → step ≡ Decline lack → OnAccept none step
   joins : none ≡ false → step ≡ SendConfirm false → OnAccept none step
 
-abbrev rows : Lacks → Bool → Bool → Bool → Bool → Bool → Bool → Bool → ClcStep
+abbrev pub rows : Lacks → Bool → Bool → Bool → Bool → Bool → Bool → Bool → ClcStep
 rows l far contact deleting none free no_slot unready =
     if far then Decline NoSubnet else
     if contact then Wait FirstContactHold else
@@ -108,7 +108,7 @@ on-first setup payload past t o at first =
     ∙ ap (λ (f : Fabric). if not (f.a.group == 0) then Wait OldGroup else SendConfirm true) at.fabric_is
 
 -- A takes an Accept of later contact
-abbrev later-rows : Offer → Lacks → Bool → Bool → Bool → Bool → ClcStep
+abbrev pub later-rows : Offer → Lacks → Bool → Bool → Bool → Bool → ClcStep
 later-rows o l lost deleting none unready =
     if lost then Decline (GroupLost o.psn l.group) else
     if deleting then Wait DeleteRkeyHold else

@@ -1,5 +1,5 @@
 -- Which of the three ways an entry goes: calls and CLC messages leave the wires alone, a delivery and a completion move one post.
-use Rattle.std.proofs.Common.{◌≡◌, ◌∙◌, ◌==◌, ◌⊎◌, inl, inr, ℕ, Bool, true, false, if◌then◌else◌, List, [], ◌∷◌, length, take, drop, refl, ap, sym, subst, ◌&&◌, ◌||◌, true≢false}
+use Rattle.std.proofs.Common.{◌≡◌, ◌∙◌, ◌==◌, ◌⊎◌, inl, inr, ℕ, Bool, true, false, if◌then◌else◌, List, [], ◌∷◌, length, take, drop, refl, ap, sym, subst, ◌&&◌}
 use Rattle.std.specs.Prelude.{Option, Some, None, is_some, option_and_then, option_map}
 use Rattle.smc_num.specs.declared.Side.{Side}
 use Rattle.smc_num.specs.declared.Side.TheVariants.{A, B}
@@ -30,8 +30,9 @@ use Rattle.world_core.specs.OneLink.{the_link}
 use Rattle.world_core.specs.Wired.{EachItem, passes_by}
 use Rattle.world_core.specs.WireSteps.{Way}
 use Rattle.world_core.specs.Agreement.{IsOnlyLink}
+use Rattle.world_core.proofs.Plain.{or-right}
 
-abbrev Chosen : Bool → ℕ → ℕ
+abbrev pub Chosen : Bool → ℕ → ℕ
 Chosen b n = if b then n else 0
 
 if-zero : (link : LinkId) (past : List Entry) → if_latest link past 0 ≡ 0
@@ -77,16 +78,12 @@ landing-found d past (inr e) =
     found-by (unlanded the_link d past) past (landing 1 d past) (is-latest past e.0)
     (ap (λ o. option_and_then (λ link. landing_on link d past) o) e.0 ∙ ap (λ b. if b then None else head (unlanded the_link d past)) e.1)
 
-not-reported : (a b : Bool) → (a || b) ≡ false → b ≡ false
-not-reported true b e = absurd (true≢false e)
-not-reported false b e = e
-
 completing-found : (d : Side) (past : List Entry) → IsOnlyLink past → (completing 1 d past ≡ None) ⊎ Found (completing 1 d past) (uncompleted the_link d past) past
 completing-found d past (inl e) = inl (ap (λ o. option_and_then (λ link. completing_on link d past) o) e)
 completing-found d past (inr e) =
     found-by (uncompleted the_link d past) past (completing 1 d past) (is-latest past e.0)
     (ap (λ o. option_and_then (λ link. completing_on link d past) o) e.0 ∙
-    ap (λ b. if b then None else head (uncompleted the_link d past)) (not-reported (is_cut the_link past) (some_reported the_link past) e.1))
+    ap (λ b. if b then None else head (uncompleted the_link d past)) (or-right (is_cut the_link past) (some_reported the_link past) e.1))
 
 -- a landing is told as landed or as dropped
 lands-as : (setup : Setup) (payload : List ℕ) (y : Side) (past : List Entry) (c : Placed) (post : Post) → (lands_told setup payload y past c post ≡ Landed c.at) ⊎ ((token : ℕ) × (lands_told setup payload y past c post ≡ Dropped token))

@@ -5,7 +5,7 @@ use Rattle.std.specs.Prelude.{Option, Some, None, option_map, unwrap_or}
 use Rattle.smc_num.specs.declared.Side.{Side}
 use Rattle.smc_num.specs.declared.Side.TheVariants.{A, B}
 use Rattle.smc_num.specs.declared.LinkId.{LinkId}
-use Rattle.smc_num.specs.Names.{other, same_side, head}
+use Rattle.smc_num.specs.Names.{other, head}
 use Rattle.smc_num.specs.Numbers.{wire_number}
 use Rattle.cdc_wire.specs.declared.CdcMessage.{CdcMessage}
 use Rattle.rmb_region.specs.Regions.{Buffer}
@@ -35,6 +35,7 @@ use Rattle.world_core.proofs.QuietEntries.{IsCalm}
 use Rattle.world_core.proofs.KeyedEnds.{KnowsEnds}
 use Rattle.world_core.proofs.CallEntries.{IsSent, sent-either, sent-self}
 use Rattle.world_core.proofs.ActedEnds.{one-acted, one-changed, one-kept, one-posts, after_at}
+use Rattle.world_core.proofs.Plain.{same-self}
 
 -- what is taken or completes leaves what was sent
 takes-sent : (m : Sent) (h : Half) → IsSent (takes (Some m) h) h
@@ -50,10 +51,6 @@ completes-sent m h =
     (record { up = refl; link = refl; sent = refl }) (record { up = refl; link = refl; sent = refl })
 
 -- whose message it is
-same-self : (x : Side) → same_side x x ≡ true
-same-self A = refl
-same-self B = refl
-
 abbrev is_theirs : Side → PostRef → List Entry → Option Offered → Bool
 is_theirs x at past o = passes (λ o. names_cdc x o.offer.token at past) o
 

@@ -28,10 +28,11 @@ use Rattle.world_core.specs.WireSteps.{Stays, LandsNow, CompletesNow, Way}
 use Rattle.world_core.specs.Agreement.{IsOnlyLink}
 use Rattle.world_core.specs.Hosts.{IsWireAfter}
 use Rattle.world_core.specs.Sending.{moved}
-use Rattle.world_core.proofs.Ways.{way}
+use Rattle.world_core.proofs.Ways.{way, Chosen}
 use Rattle.world_core.proofs.Shaken.{only-link}
 use Rattle.world_core.proofs.PlayedWorlds.{played}
 use Rattle.world_core.proofs.Unmade.{idle-link}
+use Rattle.world_core.proofs.Plain.{or-right}
 
 -- the first of what a wire carries
 head-placed : (cs : List Carried) → option_map placed (head cs) ≡ head (map placed cs)
@@ -43,10 +44,6 @@ if-none false false false q d e f = refl
 if-none true b c q d e f = absurd (true≢false d)
 if-none false true c q d e f = absurd (true≢false e)
 if-none false false true q d e f = absurd (true≢false f)
-
-not-reported : (a b : Bool) → (a || b) ≡ false → b ≡ false
-not-reported true b e = absurd (true≢false e)
-not-reported false b e = e
 
 none-placed : (q : Option Carried) → option_map placed q ≡ None → q ≡ None
 none-placed None e = refl
@@ -89,7 +86,7 @@ module _ (setup : Setup) (payload : List ℕ) (x : Side) (past : List Entry) (w 
         by (inl e) = let i = idle-link setup one payload x past n p e in landed-head ∙ ap (λ ps. head ps) i.landed ∙ sym (ap (λ o. option_and_then (λ link. completing_on link x past) o) e)
         by (inr e) =
             landed-head ∙ sym (ap (λ o. option_and_then (λ link. completing_on link x past) o) e.0 ∙
-            ap (λ b. if b then None else head (uncompleted the_link x past)) (not-reported (is_cut the_link past) (some_reported the_link past) e.1))
+            ap (λ b. if b then None else head (uncompleted the_link x past)) (or-right (is_cut the_link past) (some_reported the_link past) e.1))
 
     pub lands-alike : is_some (next_landing w) ≡ is_some (landing 1 x past)
     lands-alike = sym (some-placed (next_landing w)) ∙ ap (λ (o : Option Placed). is_some o) same-landing
@@ -98,9 +95,6 @@ module _ (setup : Setup) (payload : List ℕ) (x : Side) (past : List Entry) (w 
     completes-alike = sym (some-placed (next_completing w)) ∙ ap (λ (o : Option Placed). is_some o) same-completing
 
 -- numbers that an entry has of a wire
-abbrev Chosen : Bool → ℕ → ℕ
-Chosen b n = if b then n else 0
-
 chosen-zero : (b : Bool) → Chosen b 0 ≡ 1 → ⊥
 chosen-zero true e = let q : 0 ≡ 1 = e in omega (arith, q)
 chosen-zero false e = let q : 0 ≡ 1 = e in omega (arith, q)

@@ -1,6 +1,6 @@
 -- After each entry of a played history the wire of each side stands for it again, with the plain snapshots beside the messages.
 use Rattle.std.proofs.Common.{◌≡◌, ◌∙◌, ℕ, ◌+◌, false, List, [], ◌∷◌, ◌++◌, drop, map, filter, filter_map, refl, ap, sym, subst, ◌&&◌, true≢false, append-nil}
-use Rattle.std.specs.Prelude.{Option, Some, None, is_some, option_map, unwrap_or, cond}
+use Rattle.std.specs.Prelude.{Option, Some, None, is_some, option_map, cond}
 use Rattle.std.specs.List.{cons_option}
 use Rattle.smc_num.specs.declared.Side.{Side}
 use Rattle.smc_num.specs.declared.Side.TheVariants.{A, B}
@@ -31,14 +31,14 @@ use Rattle.world_core.specs.Agreement.{IsOnlyLink, HasOffers, GoesOn, IsShaken, 
 use Rattle.world_core.specs.Hosts.{half_of, plains, shots, TellsPlainly, places_of, IsWireAfter, with_posts}
 use Rattle.world_core.specs.Sending.{moved, acting_side}
 use Rattle.world_core.proofs.Handshaken.{shaken, has-offers, gives-items}
-use Rattle.world_core.proofs.Agreement.{agrees, new-token, new-end}
+use Rattle.world_core.proofs.Agreement.{agrees, new-token, new-end, lands-nothing, returns-nothing}
 use Rattle.world_core.proofs.Agreed.{gone, news-own, strange-step}
 use Rattle.world_core.proofs.Growth.{since-more}
 use Rattle.world_core.proofs.WireKept.{stays-waiting, stays-landed, front-waits, lands-waiting, lands-landed, front-landed, completes-waiting, completes-landed}
 use Rattle.world_core.proofs.TellsKept.{tells-stays, tells-lands, tells-completes}
-use Rattle.world_core.proofs.Unmade.{lands-nothing, returns-nothing}
 use Rattle.world_core.proofs.WireMoves.{Moving, Moves_none, Moves_landed, Moves_completed, moving, only-of}
 use Rattle.world_core.proofs.PostsFrom.{IsSentBy, posts-from}
+use Rattle.world_core.proofs.Plain.{apart-sides, some-is}
 
 -- where no CDC message is under a token, no plain snapshot is
 none-plain : (x : Side) (token : ℕ) (ws : List Carried) → cdcs x token (map placed ws) ≡ [] → plains x token ws ≡ []
@@ -49,19 +49,12 @@ none-plain x token (c ∷ ws) e = by (cdc_under x token c.post) e (λ f. none-pl
     by None f rest = rest f
     by (Some m) f rest = absurd (true≢false (ap (λ ms. is_some (head ms)) f))
 
-same-offer : (o r : Offered) → Some o ≡ Some r → o ≡ r
-same-offer o r e = ap (λ q. unwrap_or q o) e
-
 -- posts of the other side are none of a side's
-sides-apart : (x : Side) → same_side x (other x) ≡ false
-sides-apart A = refl
-sides-apart B = refl
-
 not-on : (sockets : ℕ) (x : Side) (post : Post) → IsSentBy sockets (other x) post → is_on the_link x post ≡ false
-not-on sockets x (Write from l key address len) f = ap (λ s. same_side x s && same_link the_link l) f.0 ∙ ap (λ b. b && same_link the_link l) (sides-apart x)
-not-on sockets x (Cdc from l m) f = ap (λ s. same_side x s && same_link the_link l) f.0 ∙ ap (λ b. b && same_link the_link l) (sides-apart x)
-not-on sockets x (Llc from l m) f = ap (λ s. same_side x s && same_link the_link l) f.0 ∙ ap (λ b. b && same_link the_link l) (sides-apart x)
-not-on sockets x (Clc from s l m) f = ap (λ s. same_side x s && false) f.0 ∙ ap (λ b. b && false) (sides-apart x)
+not-on sockets x (Write from l key address len) f = ap (λ s. same_side x s && same_link the_link l) f.0 ∙ ap (λ b. b && same_link the_link l) (apart-sides x)
+not-on sockets x (Cdc from l m) f = ap (λ s. same_side x s && same_link the_link l) f.0 ∙ ap (λ b. b && same_link the_link l) (apart-sides x)
+not-on sockets x (Llc from l m) f = ap (λ s. same_side x s && same_link the_link l) f.0 ∙ ap (λ b. b && same_link the_link l) (apart-sides x)
+not-on sockets x (Clc from s l m) f = ap (λ s. same_side x s && false) f.0 ∙ ap (λ b. b && false) (apart-sides x)
 
 none-on : (sockets : ℕ) (x : Side) (entry first : ℕ) (posts : List Post) → EachPost (IsSentBy sockets (other x)) posts → filter (λ c. is_on the_link x c.post) (numbered entry first posts) ≡ []
 none-on sockets x entry first [] f = refl
@@ -183,7 +176,7 @@ module _ (setup : Setup) (one : IsOneLink setup) (payload : List ℕ) (e : Entry
         by None g = tells-new v waiting landed s o f g
         by (Some r) g =
             let go : GoesOn e past = gives.goes_on in
-            subst (λ (k : Offered). TellsPlainly x k.offer.token v (Then x s)) (same-offer r o (sym (go.kept (other x) s r g) ∙ f)) (tells s r g)
+            subst (λ (k : Offered). TellsPlainly x k.offer.token v (Then x s)) (some-is r o (sym (go.kept (other x) s r g) ∙ f)) (tells s r g)
 
     -- the wire with what was posted, by what left it
     after-none : Moving x e past w → IsWireAfter setup payload x (e ∷ past) (with_posts cs (moved x e.event w))

@@ -65,21 +65,12 @@ use Rattle.world_core.proofs.Parts.{part-open}
 use Rattle.world_core.proofs.Pipes.{has-pipe}
 use Rattle.world_core.proofs.GoingUp.{completed-told}
 use Rattle.world_core.proofs.EndRecords.{UpConn, up-conn}
+use Rattle.world_core.proofs.Plain.{and-left, same-is}
 
 -- the posts of placed ones
 posts-each : (P : Post → Type 0) (cs : List Placed) → EachPlaced (λ c. P c.post) cs → EachPost P (map (λ c. c.post) cs)
 posts-each P [] e = tt
 posts-each P (c ∷ cs) e = (e.0, posts-each P cs e.1)
-
-and-left : (a b : Bool) → (a && b) ≡ true → a ≡ true
-and-left true b e = refl
-and-left false b e = e
-
-side-is : (x y : Side) → same_side x y ≡ true → y ≡ x
-side-is A A e = refl
-side-is B B e = refl
-side-is A B e = absurd (true≢false (sym e))
-side-is B A e = absurd (true≢false (sym e))
 
 -- the next CDC message on a side's wire is its own
 own-next : (x : Side) (ps : List Post) (m : CdcMessage) → EachPost (λ p. is_on the_link x p ≡ true) ps → next_cdc ps ≡ Some m → filter_map (cdc_under x m.token) ps ≡ [] → ⊥
@@ -219,7 +210,7 @@ module _ (setup : Setup) (payload : List ℕ) (set : IsWorldSet setup payload) (
       let way = subst (λ cs. EachPlaced (IsUnderWay setup past) cs) q (under-way setup set.one payload past n p x) in
       let first = way.0 in
       let d : IsDirected setup from link key address len (following_cdc c.at past) past = subst (λ post. GoesHome setup (following_cdc c.at past) past post) e first.home in
-      let side : from ≡ x = side-is x from (and-left (same_side x from) (same_link the_link link) (ap (λ post. is_on the_link x post) (sym e) ∙ there.0)) in
+      let side : from ≡ x = sym (same-is x from (and-left (same_side x from) (same_link the_link link) (ap (λ post. is_on the_link x post) (sym e) ∙ there.0))) in
       let w : waiting_posts x past ≡ Write from link key address len ∷ Rest = ap (λ cs. map (λ (d : Placed). d.post) cs) q ∙ ap (λ post. post ∷ Rest) e in
       let reached : Reaches setup payload x d.s d.offer past = bytes-reach setup set.one payload past n p x d.s d.offer (ap (λ y. offered (other y) d.s past) (sym side) ∙ d.offered_is) in
       let carries = subst (λ ps. Carries Size x (offered_place d.offer.offer) d.offer.offer.token reached.reach ps (to_land (half_of setup payload x d.s past)) (half_of setup payload x d.s past).last.told) w reached.carries in

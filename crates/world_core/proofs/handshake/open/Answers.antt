@@ -5,9 +5,10 @@ use Rattle.side_core.specs.Landing.{opening_posts}
 use Rattle.world_core.specs.Hosts.{past_of, with_posts}
 use Rattle.world_core.specs.Sending.{carried_from, puts_all}
 use Rattle.world_core.proofs.HostsOn.{plays-at, few-past, number-past}
-use Rattle.world_core.proofs.OpeningsAfter.{socket-at-client, socket-at-server, none-at-server, used-before, fallen-back, begun, not-both, first-fails, both-hold}
+use Rattle.world_core.proofs.OpeningsAfter.{socket-at-client, socket-at-server, none-at-server, used-before, fallen-back, begun, not-both, first-fails}
 use Rattle.world_core.proofs.handshake.open.Goals as goal
 use Rattle.world_core.proofs.handshake.open.Goals.{else-a-via-then-a+else-b, else-a-via-else-a}
+use Rattle.world_core.proofs.Plain.{and-true}
 
 pub returns-then-is_opened : goal.returns-then-is_opened
 returns-then-is_opened c =
@@ -60,7 +61,7 @@ returns-then-b c =
     let at = c.args.moment in
     plays-at at (Open c.args.s) _ c.open-then-b.new.posts.items A _ _
     (begun at.setup.now at.payload.now (past_of at) at.heard c.args.s c.args.client.now c.args.server.now c.requires.hosts (few-past at c.requires.few) c.requires.socket
-    (sym c.is_opened.ensures ∙ c.if-is_opened.false) (both-hold _ _ c.if-a.true c.if-b.true) c.open-then-b.new.posts.items
+    (sym c.is_opened.ensures ∙ c.if-is_opened.false) (and-true _ _ c.if-a.true c.if-b.true) c.open-then-b.new.posts.items
     (c.open-then-b.ensures.posts ∙ ap (λ ps. ps ++ opening_posts c.args.s c.args.server.now.core.desk) (c.open.ensures.posts ∙ ap (λ ps. ps ++ opening_posts c.args.s c.args.client.now.core.desk) c.requires.none))
     _ (number-past at) c.open.new.self _ _ c.open.ensures.side c.send.ensures.core
     (λ m st. c.send.ensures.wire m st ∙ ap (λ ps. with_posts (carried_from m (length at.history.now + 1) 1 ps) c.args.client.now.wire) c.as_slice.ensures.value)
