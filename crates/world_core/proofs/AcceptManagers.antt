@@ -42,12 +42,12 @@ use Rattle.world_core.specs.Managers.{manager_of, desk_of, hand_of, conn_of, end
 use Rattle.world_core.proofs.QuietEvents.{by-side, entry-of}
 use Rattle.world_core.proofs.QuietEntries.{all-stay}
 use Rattle.world_core.proofs.StartedRows.{rows-change, spare-less, next-is, epoch-here, eqb-sym, conn-beside}
-use Rattle.world_core.proofs.SameManagers.{desk_from, rows_from, same-conn, same-spare, hand-same}
+use Rattle.world_core.proofs.SameManagers.{desk_from, rows_from, same-conn, same-spare, hand-same, heard-same}
 use Rattle.world_core.proofs.LinkManagers.{stage-desk}
 use Rattle.world_core.proofs.KeptManagers.{by-parts}
 use Rattle.world_core.proofs.Lendings.{no-lending-due, lending-due, due-same}
 use Rattle.world_core.proofs.Tables.{same-sockets, set-socket, at-socket}
-use Rattle.world_core.proofs.Plain.{and-false, plus-none}
+use Rattle.world_core.proofs.Plain.{and-false, plus-none, at-or-beside}
 use Rattle.std.proofs.Math.Numerals.{add-one}
 
 -- how far an Accept leads the link
@@ -257,8 +257,7 @@ module _ {s : ℕ} {first : Bool} {from to : Stage} (setup : Setup) (payload : L
       by false d = same-conn setup payload A (e ∷ past) past t (record {
         up = refl;
         link = ap (λ q. option_map (λ (p : Offered). p.link) q) (offer-else t d);
-        heard = ap (λ st. if awaits_confirm st then None else option_map (λ (p : Offered). p.offer) (offered B t (e ∷ past))) (state-a t)
-            ∙ ap (λ q. if awaits_confirm (end_state A t past) then None else option_map (λ (p : Offered). p.offer) q) (offer-else t d);
+        heard = heard-same A (e ∷ past) past t (state-a t) (offer-else t d);
       }) refl lent-a (end-else A t (group-else t d))
 
   spare-b : length (free_places setup payload B (e ∷ past)) ≡ length (free_places setup payload B past) - 1
@@ -287,12 +286,13 @@ module _ {s : ℕ} {first : Bool} {from to : Stage} (setup : Setup) (payload : L
 
   -- each socket has its lending
   pub accepts-lendings : HasLendings setup payload (e ∷ past)
-  accepts-lendings = record { each = by-side (λ y. (t : ℕ) → lending_on t (lent setup payload y (e ∷ past)) ≡ lending_due y t (e ∷ past)) of_a (λ t. of_b t (t == s) refl) }
+  accepts-lendings = record { each = by-side (λ y. (t : ℕ) → lending_on t (lent setup payload y (e ∷ past)) ≡ lending_due y t (e ∷ past)) of_a of_b }
     where
       of_a : (t : ℕ) → lending_on t (lent setup payload A (e ∷ past)) ≡ lending_due A t (e ∷ past)
       of_a t = ap (λ (ls : List Lending). lending_on t ls) lent-a ∙ (lendings_are.each A t ∙ sym (due-same A t (e ∷ past) past (state-a t) refl))
 
-      of_b : (t : ℕ) (b : Bool) → (t == s) ≡ b → lending_on t (lent setup payload B (e ∷ past)) ≡ lending_due B t (e ∷ past)
-      of_b t true i = subst (λ k. lending_on k (lent setup payload B (e ∷ past)) ≡ lending_due B k (e ∷ past)) (sym (eqb-true t s i))
+      of_b : (t : ℕ) → lending_on t (lent setup payload B (e ∷ past)) ≡ lending_due B t (e ∷ past)
+      of_b =
+          at-or-beside (λ k. lending_on k (lent setup payload B (e ∷ past)) ≡ lending_due B k (e ∷ past)) s
           (lending-here ∙ sym (lending-due B s (e ∷ past) (record { link = the_link; offer = o }) offer-b (ap (λ st. keeps_element st) state-here)))
-      of_b t false d = lending-else t d ∙ (lendings_are.each B t ∙ sym (due-same B t (e ∷ past) past (state-else t d) (offer-else t d)))
+          (λ t d. lending-else t d ∙ (lendings_are.each B t ∙ sym (due-same B t (e ∷ past) past (state-else t d) (offer-else t d))))

@@ -2,7 +2,7 @@
 use Rattle.std.proofs.Common.{◌≡◌, ◌∙◌, ◌==◌, ℕ, ◌-◌, Bool, true, false, List, [], ◌∷◌, take, drop, map, refl, ap, sym, subst, ◌||◌, true≢false, eqb-true, suc, zero}
 use Rattle.std.specs.Prelude.{Option, Some, None, is_some}
 use Rattle.smc_num.specs.declared.Side.{Side}
-use Rattle.smc_num.specs.Names.{other}
+use Rattle.smc_num.specs.Names.{other, head}
 use Rattle.pipe_model.specs.declared.setup.Setup.{Setup}
 use Rattle.pipe_model.specs.declared.entry.Entry.{Entry}
 use Rattle.pipe_model.specs.declared.sent.Sent.{Sent}
@@ -20,11 +20,14 @@ use Rattle.world_core.proofs.Idle.{idle}
 use Rattle.world_core.proofs.Parts.{part-open, up-offered, comes-not-up}
 use Rattle.world_core.proofs.UpEnds.{pipe-is-up}
 use Rattle.world_core.proofs.Agreed.{strange-step, carried-step, can-step}
-use Rattle.world_core.proofs.Plain.{some-is}
+use Rattle.world_core.proofs.Plain.{some-is, none-some}
 
 pub nothing-left : (n : ℕ) (ms : List Sent) → ms ≡ [] → drop n ms ≡ []
 nothing-left zero ms e = ap (λ ns. drop 0 ns) e
 nothing-left (suc n) ms e = ap (λ ns. drop (suc n) ns) e
+
+pub none-first : (m : Sent) (ms : List Sent) (i : ℕ) → head (drop i ms) ≡ Some m → ms ≡ [] → ⊥
+none-first m ms i e f = none-some m (sym (ap (λ ns. head ns) (nothing-left i ms f)) ∙ e)
 
 pub nothing-taken : (n : ℕ) (ms : List Sent) → ms ≡ [] → take n ms ≡ []
 nothing-taken zero ms e = ap (λ ns. take 0 ns) e

@@ -23,7 +23,7 @@ use Rattle.pipe_model.specs.declared.post.Post.TheVariants.{Write as WritePost, 
 use Rattle.pipe_model.specs.declared.post.Placed.{Placed}
 use Rattle.pipe_model.specs.declared.entry.Entry.{Entry}
 use Rattle.pipe_model.specs.History.{Offered, offer_in, offered_if}
-use Rattle.pipe_model.specs.Connections.{EndState, NoEnd, WaitsProposal, WaitsAnswer, WaitsConfirm, WaitsLink, IsUp, HasFallen, WasReset, end_state, named_link}
+use Rattle.pipe_model.specs.Connections.{EndState, WaitsProposal, WaitsAnswer, WaitsConfirm, end_state, named_link}
 use Rattle.pipe_model.specs.Handshake.{key_step, on_proposal, on_accept, verdict, lacks}
 use Rattle.pipe_model.specs.Flows.{is_asked, is_deleting}
 use Rattle.pipe_model.specs.Fabric.{act_of}
@@ -83,18 +83,8 @@ accept-not o l =
 ready-in : (raw : Bool) (state : EndState) (m : ClcMessage) (l : Lacks) → readies (verdict raw state m l) ≡ true → awaits_confirm state ≡ true
 ready-in raw WaitsConfirm m l e = refl
 ready-in raw WaitsProposal (ProposalMessage p) l e = absurd (true≢false (sym e ∙ proposal-not raw p l))
-ready-in raw WaitsProposal (DeclineMessage r) l e = e
-ready-in raw WaitsProposal (AcceptMessage p) l e = e
-ready-in raw WaitsProposal (ConfirmMessage o) l e = e
 ready-in raw WaitsAnswer (AcceptMessage o) l e = absurd (true≢false (sym e ∙ accept-not o l))
-ready-in raw WaitsAnswer (DeclineMessage r) l e = e
-ready-in raw WaitsAnswer (ProposalMessage p) l e = e
-ready-in raw WaitsAnswer (ConfirmMessage o) l e = e
-ready-in raw NoEnd m l e = e
-ready-in raw WaitsLink m l e = e
-ready-in raw IsUp m l e = e
-ready-in raw HasFallen m l e = e
-ready-in raw (WasReset cause) m l e = e
+ready-in raw _ m l e = e
 
 ready-at : (k : Socket) (y : Side) → awaits_confirm (end_at k y) ≡ true → B ≡ y
 ready-at k B e = refl

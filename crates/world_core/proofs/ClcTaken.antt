@@ -118,11 +118,6 @@ map-get (x ∷ xs) (suc s) d = ap (λ ys. x ∷ ys) (map-get xs s d)
 held-by : (s : ℕ) (m : ClcMessage) (link : LinkId) (paths : List Bool) (v : Manager Half) (step : ClcStep) → is_wait step ≡ true
     → (with_hand s (record (hand_at s v) { state = after_step step m (state_at s v) }) (by_verdict s m link paths v step) ≡ v) × (verdict_posts s m link paths v step ++ verdict_risen s m link v step ≡ [])
 held-by s m link paths v (Wait hold) e = (ap (λ (hs : List Hand). record v { hands = hs }) (map-get v.hands s no_hand), refl)
-held-by s m link paths v (SendAccept first) e = absurd (true≢false (sym e))
-held-by s m link paths v (SendConfirm first) e = absurd (true≢false (sym e))
-held-by s m link paths v (Decline lack) e = absurd (true≢false (sym e))
-held-by s m link paths v Fell e = absurd (true≢false (sym e))
-held-by s m link paths v Ready e = absurd (true≢false (sym e))
 held-by s m link paths v _ e = absurd (true≢false (sym e))
 
 pub held : (s : ℕ) (m : ClcMessage) (link : LinkId) (paths : List Bool) (v : Manager Half) → is_wait (verdict_at s m paths v) ≡ true

@@ -3,7 +3,7 @@
 use Rattle.world_core.proofs.OpenEnds.{stays-out}
 use Rattle.std.specs.List.{cons_option}
 use Rattle.pipe_model.specs.Words.{rmbs_of, elements_of}
-use Rattle.std.proofs.Common.{◌≡◌, ◌∙◌, ℕ, ◌+◌, ◌-◌, ◌<◌, ◌==◌, not, Bool, true, false, cond, if◌then◌else◌, List, [], ◌∷◌, ◌++◌, length, map, filter, refl, ap, sym, subst, eq-eqb, eqb-true, arith, suc, zero}
+use Rattle.std.proofs.Common.{◌≡◌, ◌∙◌, ℕ, ◌+◌, ◌-◌, ◌<◌, ◌==◌, not, true, false, cond, if◌then◌else◌, List, [], ◌∷◌, ◌++◌, length, map, filter, refl, ap, sym, subst, eq-eqb, arith, suc, zero}
 use Rattle.std.specs.Prelude.{Option, Some, None, option_map, unwrap_or, slice_set, slice_index_or}
 use Rattle.std.specs.Option.{option_or}
 use Rattle.smc_num.specs.declared.Side.{Side}
@@ -42,12 +42,12 @@ use Rattle.world_core.specs.Managers.{manager_of, desk_of, hand_of, conn_of, end
 use Rattle.world_core.proofs.QuietEvents.{by-side, entry-of}
 use Rattle.world_core.proofs.QuietEntries.{all-stay}
 use Rattle.world_core.proofs.StartedRows.{rows-change, spare-less, next-is, epoch-here, eqb-sym, conn-beside}
-use Rattle.world_core.proofs.SameManagers.{desk_from, rows_from, same-conn, same-spare, hand-same}
+use Rattle.world_core.proofs.SameManagers.{desk_from, rows_from, same-conn, same-spare, hand-same, heard-same}
 use Rattle.world_core.proofs.LinkManagers.{stage-desk}
 use Rattle.world_core.proofs.KeptManagers.{by-parts}
 use Rattle.world_core.proofs.Lendings.{lending-due, due-same}
 use Rattle.world_core.proofs.Tables.{same-sockets, set-socket, at-socket, sockets-long}
-use Rattle.world_core.proofs.Plain.{and-false, plus-none}
+use Rattle.world_core.proofs.Plain.{and-false, plus-none, at-or-beside}
 use Rattle.std.proofs.Math.Numerals.{add-one}
 
 -- the entry of a Confirm of first contact
@@ -230,14 +230,11 @@ module _ (setup : Setup) (payload : List ℕ) (regions : List Buffer) (past : Li
       (record { up = refl; link = refl; heard = ap (λ st. if awaits_confirm st then None else option_map (λ (p : Offered). p.offer) (offered B t past)) (state-else t d) }) (end-by A t) (lending-else t d)
 
   heard-b : (t : ℕ) → heard_on B t (e ∷ past) ≡ heard_on B t past
-  heard-b t = by (t == s) refl
-    where
-      by : (b : Bool) → (t == s) ≡ b → heard_on B t (e ∷ past) ≡ heard_on B t past
-      by true i = subst (λ k. heard_on B k (e ∷ past) ≡ heard_on B k past) (sym (eqb-true t s i))
-          (ap (λ st. if awaits_confirm st then None else option_map (λ (p : Offered). p.offer) (offered A s (e ∷ past))) (state-b s ∙ waits)
-          ∙ sym (ap (λ st. if awaits_confirm st then None else option_map (λ (p : Offered). p.offer) (offered A s past)) waits))
-      by false d = ap (λ st. if awaits_confirm st then None else option_map (λ (p : Offered). p.offer) (offered A t (e ∷ past))) (state-b t)
-          ∙ ap (λ q. if awaits_confirm (end_state B t past) then None else option_map (λ (p : Offered). p.offer) q) (offer-else t d)
+  heard-b =
+      at-or-beside (λ k. heard_on B k (e ∷ past) ≡ heard_on B k past) s
+      (ap (λ st. if awaits_confirm st then None else option_map (λ (p : Offered). p.offer) (offered A s (e ∷ past))) (state-b s ∙ waits)
+      ∙ sym (ap (λ st. if awaits_confirm st then None else option_map (λ (p : Offered). p.offer) (offered A s past)) waits))
+      (λ t d. heard-same B (e ∷ past) past t (state-b t) (offer-else t d))
 
   conn-b : (t : ℕ) → conn_of setup payload B (e ∷ past) t ≡ conn_of setup payload B past t
   conn-b t = same-conn setup payload B (e ∷ past) past t (record { up = refl; link = refl; heard = heard-b t }) refl lent-b (end-by B t)
@@ -279,12 +276,13 @@ module _ (setup : Setup) (payload : List ℕ) (regions : List Buffer) (past : Li
 
   -- each socket has its lending
   pub confirms-lendings : HasLendings setup payload (e ∷ past)
-  confirms-lendings = record { each = by-side (λ y. (t : ℕ) → lending_on t (lent setup payload y (e ∷ past)) ≡ lending_due y t (e ∷ past)) (λ t. of_a t (t == s) refl) of_b }
+  confirms-lendings = record { each = by-side (λ y. (t : ℕ) → lending_on t (lent setup payload y (e ∷ past)) ≡ lending_due y t (e ∷ past)) of_a of_b }
     where
       of_b : (t : ℕ) → lending_on t (lent setup payload B (e ∷ past)) ≡ lending_due B t (e ∷ past)
       of_b t = ap (λ (ls : List Lending). lending_on t ls) lent-b ∙ (lendings_are.each B t ∙ sym (due-same B t (e ∷ past) past (state-b t) refl))
 
-      of_a : (t : ℕ) (b : Bool) → (t == s) ≡ b → lending_on t (lent setup payload A (e ∷ past)) ≡ lending_due A t (e ∷ past)
-      of_a t true i = subst (λ k. lending_on k (lent setup payload A (e ∷ past)) ≡ lending_due A k (e ∷ past)) (sym (eqb-true t s i))
+      of_a : (t : ℕ) → lending_on t (lent setup payload A (e ∷ past)) ≡ lending_due A t (e ∷ past)
+      of_a =
+          at-or-beside (λ k. lending_on k (lent setup payload A (e ∷ past)) ≡ lending_due A k (e ∷ past)) s
           (lending-here ∙ sym (lending-due A s (e ∷ past) (record { link = the_link; offer = o }) offer-a (ap (λ st. keeps_element st) state-here)))
-      of_a t false d = lending-else t d ∙ (lendings_are.each A t ∙ sym (due-same A t (e ∷ past) past (state-else t d) (offer-else t d)))
+          (λ t d. lending-else t d ∙ (lendings_are.each A t ∙ sym (due-same A t (e ∷ past) past (state-else t d) (offer-else t d))))

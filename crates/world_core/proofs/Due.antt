@@ -53,14 +53,8 @@ own-half size A (Calls A call) p q a e = ap (λ h. half A (apply size (Calls A c
 own-half size B (Calls B call) p q a e = ap (λ h. half B (apply size (Calls B call) (record p { b = h }))) e
 own-half size A (Completes A) p q a e = ap (λ h. half A (apply size (Completes A) (record p { a = h }))) e
 own-half size B (Completes B) p q a e = ap (λ h. half B (apply size (Completes B) (record p { b = h }))) e
-own-half size A (Calls B call) p q a e = absurd (true≢false (sym a))
-own-half size B (Calls A call) p q a e = absurd (true≢false (sym a))
-own-half size A (Completes B) p q a e = absurd (true≢false (sym a))
-own-half size B (Completes A) p q a e = absurd (true≢false (sym a))
-own-half size x (Fate y link phase) p q a e = absurd (true≢false (sym a))
-own-half size x (GroupEnd y) p q a e = absurd (true≢false (sym a))
-own-half size x (Up y link) p q a e = absurd (true≢false (sym a))
-own-half size x (Lands y) p q a e = absurd (true≢false (sym a))
+own-half size A _ p q a e = absurd (true≢false (sym a))
+own-half size B _ p q a e = absurd (true≢false (sym a))
 
 acts-not-rests : (x : Side) (item : Item) → acts_at x item ≡ true → rests x item ≡ false
 acts-not-rests x (Calls y call) a = ap (λ b. not b) a

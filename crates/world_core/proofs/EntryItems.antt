@@ -86,11 +86,7 @@ fates-only test x group e past f = over (table_of x (e ∷ past))
 
 fate-either : (item : Item) → is_a_fate item ≡ true → is_fate_or_up item ≡ true
 fate-either (Fate x link phase) e = refl
-fate-either (Up y link) e = absurd (true≢false (sym e))
-fate-either (GroupEnd y) e = absurd (true≢false (sym e))
-fate-either (Calls y call) e = absurd (true≢false (sym e))
-fate-either (Lands y) e = absurd (true≢false (sym e))
-fate-either (Completes y) e = absurd (true≢false (sym e))
+fate-either _ e = absurd (true≢false (sym e))
 
 one-up : (x : Side) (o : Option LinkId) → EachItem is_fate_or_up (option_to_list (option_map (Up x) o))
 one-up x None = tt

@@ -1,5 +1,5 @@
 -- B takes the Confirm of later contact: its end hears the offer of A and is established, and posts what is due then.
-use Rattle.std.proofs.Common.{◌≡◌, ◌∙◌, ℕ, ◌<◌, ◌==◌, ◌||◌, not, Bool, true, false, if◌then◌else◌, List, [], ◌∷◌, ◌++◌, length, filter_map, flat_map, reverse, refl, ap, sym, subst, eq-eqb, eqb-true, append-nil, arith}
+use Rattle.std.proofs.Common.{◌≡◌, ◌∙◌, ℕ, ◌<◌, ◌==◌, ◌||◌, not, Bool, true, false, if◌then◌else◌, List, [], ◌∷◌, ◌++◌, length, filter_map, flat_map, reverse, refl, ap, sym, subst, eq-eqb, append-nil, arith}
 use Rattle.std.specs.Prelude.{Option, Some, None, option_map, option_to_list, unwrap_or, slice_set, slice_index_or, is_some}
 use Rattle.std.specs.Option.{option_or}
 use Rattle.smc_num.specs.declared.Side.{Side}
@@ -51,7 +51,7 @@ use Rattle.world_core.proofs.EntryItems.{items-are, below-ups}
 use Rattle.world_core.proofs.Parts.{part-open}
 use Rattle.world_core.proofs.PipePosts.{met}
 use Rattle.world_core.proofs.PipeSteps.{rests, sent-by}
-use Rattle.world_core.proofs.PlainPosts.{ArePlain, data-plain, offer-stays, lends-none, lendings-stay}
+use Rattle.world_core.proofs.PlainPosts.{ArePlain, data-plain, offer-stays, lends-none, lendings-stay, plain-route}
 use Rattle.world_core.proofs.StillEntries.{lent-stays, still-desk, keys-stay}
 use Rattle.world_core.proofs.SameManagers.{SameDesk, SameRoute, route_from, same-desk, same-conn, same-spare, hand-same}
 use Rattle.world_core.proofs.DuePosts.{last-known, known-key}
@@ -61,7 +61,7 @@ use Rattle.world_core.proofs.LinkManagers.{rise}
 use Rattle.world_core.proofs.ConfirmManagers.{set-set, get-set}
 use Rattle.world_core.proofs.Tables.{same-sockets, set-socket, at-socket, sockets-long}
 use Rattle.world_core.proofs.TakenAlone.{IsTakenBy, taken-by}
-use Rattle.world_core.proofs.Plain.{if-same, and-false}
+use Rattle.world_core.proofs.Plain.{if-same, and-false, at-or-beside}
 use Rattle.std.proofs.Math.Seq.{drop-length}
 
 module _ (setup : Setup) (payload : List ℕ) (regions : List Buffer) (past : List Entry) (one : setup.links ≡ 1) (t0 s : ℕ) (world : IsWorld setup (LiveAtBoth t0) past) (lendings_are : HasLendings setup payload past) (actor n : ℕ) (posts : List Post)
@@ -245,19 +245,13 @@ module _ (setup : Setup) (payload : List ℕ) (regions : List Buffer) (past : Li
     end-by y t is i = ap (λ g. half y (pipe (terms_of setup) (part payload g t (e ∷ past)))) (group-same t) ∙ ap (λ (is : List Item). half y (pipe (terms_of setup) (is ++ part payload (group_on t past) t past))) i
 
     end-a : (t : ℕ) → end_of setup payload A t (e ∷ past) ≡ end_of setup payload A t past
-    end-a t = by (t == s) refl
-      where
-        by : (b : Bool) → (t == s) ≡ b → end_of setup payload A t (e ∷ past) ≡ end_of setup payload A t past
-        by true i = subst (λ k. end_of setup payload A k (e ∷ past) ≡ end_of setup payload A k past) (sym (eqb-true t s i)) (end-by A s (Up B the_link ∷ []) (items-here actor posts (group_on s past)) ∙ rests (terms_of setup) A (part payload (group_on s past) s past))
-        by false d = end-by A t [] (items-else actor posts (group_on t past) t d)
+    end-a =
+        at-or-beside (λ k. end_of setup payload A k (e ∷ past) ≡ end_of setup payload A k past) s
+        (end-by A s (Up B the_link ∷ []) (items-here actor posts (group_on s past)) ∙ rests (terms_of setup) A (part payload (group_on s past) s past))
+        (λ t d. end-by A t [] (items-else actor posts (group_on t past) t d))
 
     route-by : (y : Side) (t : ℕ) → is_up y t (e ∷ past) ≡ is_up y t past → end_state y t (e ∷ past) ≡ end_state y t past → SameRoute y (e ∷ past) past t
-    route-by y t up same = record {
-      up = up;
-      link = ap (λ q. option_map (λ (p : Offered). p.link) q) (offer-stays e past plain-now B t);
-      heard = ap (λ st. if awaits_confirm st then None else option_map (λ (p : Offered). p.offer) (offered (other y) t (e ∷ past))) same
-          ∙ ap (λ q. if awaits_confirm (end_state y t past) then None else option_map (λ (p : Offered). p.offer) q) (offer-stays e past plain-now (other y) t);
-    }
+    route-by y t up same = plain-route e past plain-now y t up same
 
     heard-s : heard_on B s (e ∷ past) ≡ Some o
     heard-s = ap (λ st. if awaits_confirm st then None else option_map (λ (p : Offered). p.offer) (offered A s (e ∷ past))) state-s ∙ ap (λ q. option_map (λ (p : Offered). p.offer) q) (offer-stays e past plain-now A s ∙ theirs_is)
@@ -302,11 +296,10 @@ module _ (setup : Setup) (payload : List ℕ) (regions : List Buffer) (past : Li
         (ap (λ (ls : List Lending). length ls) (lendings-stay e past plain-now A)) (same-spare setup payload A (e ∷ past) past (lent-now A))
 
     keeps-b : (t : ℕ) → keeps_element (end_state B t (e ∷ past)) ≡ keeps_element (end_state B t past)
-    keeps-b t = by (t == s) refl
-      where
-        by : (b : Bool) → (t == s) ≡ b → keeps_element (end_state B t (e ∷ past)) ≡ keeps_element (end_state B t past)
-        by true i = subst (λ k. keeps_element (end_state B k (e ∷ past)) ≡ keeps_element (end_state B k past)) (sym (eqb-true t s i)) (ap (λ st. keeps_element st) state-s ∙ sym (ap (λ st. keeps_element st) state))
-        by false d = ap (λ st. keeps_element st) (state-else t d)
+    keeps-b =
+        at-or-beside (λ k. keeps_element (end_state B k (e ∷ past)) ≡ keeps_element (end_state B k past)) s
+        (ap (λ st. keeps_element st) state-s ∙ sym (ap (λ st. keeps_element st) state))
+        (λ t d. ap (λ st. keeps_element st) (state-else t d))
 
     pub comes-up-later : IsTakenBy setup payload regions B s (ConfirmMessage o) the_link e past
     comes-up-later =

@@ -2,7 +2,7 @@
 use Rattle.std.specs.Option.{option_or}
 use Rattle.smc_num.specs.declared.LinkId.{LinkId}
 use Rattle.world_core.specs.Wired.{EachItem, keeps_open}
-use Rattle.std.proofs.Common.{◌≡◌, ◌∙◌, ℕ, ◌<◌, ◌==◌, ◌||◌, not, Bool, true, false, cond, if◌then◌else◌, List, [], ◌∷◌, ◌++◌, length, filter, refl, ap, sym, subst, eq-eqb, eqb-true, append-nil}
+use Rattle.std.proofs.Common.{◌≡◌, ◌∙◌, ℕ, ◌<◌, ◌==◌, ◌||◌, not, Bool, true, false, cond, if◌then◌else◌, List, [], ◌∷◌, ◌++◌, length, filter, refl, ap, sym, subst, eq-eqb, append-nil}
 use Rattle.std.specs.Prelude.{Some, None, option_map, unwrap_or, slice_set, is_some, option_and_then}
 use Rattle.std.specs.List.{find}
 use Rattle.smc_num.specs.declared.Side.{Side}
@@ -30,16 +30,17 @@ use Rattle.world_core.specs.OneLink.{Stage}
 use Rattle.world_core.specs.Sockets.{IsWorld}
 use Rattle.world_core.specs.Played.{IsPlayed}
 use Rattle.world_core.specs.Agreement.{IsShaken}
-use Rattle.world_core.specs.Managers.{manager_of, desk_of, hand_of, conn_of, end_of, route_of, each_socket, lending_on, awaits_confirm, keeps_element, HasLendings}
+use Rattle.world_core.specs.Managers.{manager_of, desk_of, hand_of, conn_of, end_of, route_of, each_socket, lending_on, keeps_element, HasLendings}
 use Rattle.world_core.proofs.QuietEvents.{by-side, entry-of}
 use Rattle.world_core.proofs.QuietEntries.{only-deeds, same-group}
 use Rattle.world_core.proofs.Parts.{part-open}
-use Rattle.world_core.proofs.PlainPosts.{ArePlain, offer-stays, lends-none, lendings-stay}
+use Rattle.world_core.proofs.PlainPosts.{ArePlain, offer-stays, lends-none, lendings-stay, plain-route}
 use Rattle.world_core.proofs.StillEntries.{silent-pipes, end-stays, lent-stays, returns-by, still-desk}
 use Rattle.world_core.proofs.SameManagers.{SameDesk, SameRoute, same-desk, same-conn, same-spare, hand-same}
 use Rattle.world_core.proofs.KeptManagers.{by-parts}
 use Rattle.world_core.proofs.Lendings.{no-lending-due, lendings-kept}
 use Rattle.world_core.proofs.Tables.{same-sockets, set-socket, at-socket}
+use Rattle.world_core.proofs.Plain.{at-or-beside}
 
 -- what becomes of both managers, and what is posted, as an end falls back
 pub record IsFallen (setup : Setup) (payload : List ℕ) (regions : List Buffer) (x : Side) (s : ℕ) (posts : List Post) (e : Entry) (past : List Entry) : Type 0 where
@@ -135,12 +136,7 @@ module _ (setup : Setup) (payload : List ℕ) (regions : List Buffer) (stage : S
       ∙ (early-by x s ∙ (after s (early_state x s past) ∙ ap (λ b. if b then HasFallen else early_state x s past) (eq-eqb s s refl)))
 
   route-by : (y : Side) (t : ℕ) → end_state y t (e ∷ past) ≡ end_state y t past → SameRoute y (e ∷ past) past t
-  route-by y t same = record {
-    up = up-same y t;
-    link = ap (λ o. option_map (λ (p : Offered). p.link) o) (offer-stays e past plain-now B t);
-    heard = ap (λ st. if awaits_confirm st then None else option_map (λ (p : Offered). p.offer) (offered (other y) t (e ∷ past))) same
-        ∙ ap (λ o. if awaits_confirm (end_state y t past) then None else option_map (λ (p : Offered). p.offer) o) (offer-stays e past plain-now (other y) t);
-  }
+  route-by y t same = plain-route e past plain-now y t (up-same y t) same
 
   group-on-same : (t : ℕ) → group_on t (e ∷ past) ≡ group_on t past
   group-on-same t = ap (λ o. unwrap_or (option_map (λ (link : LinkId). link.group) (option_map (λ (p : Offered). p.link) o)) 0) (offer-stays e past plain-now B t)
@@ -152,12 +148,10 @@ module _ (setup : Setup) (payload : List ℕ) (regions : List Buffer) (stage : S
   no-conn h none = ap (λ o. option_map (λ l. let k : Connection Half = record { route = route_of x s h l; end = end_of setup payload x s h } in k) o) none
 
   conn-own : (t : ℕ) → conn_of setup payload x (e ∷ past) t ≡ conn_of setup payload x past t
-  conn-own t = by (t == s) refl
-    where
-      by : (b : Bool) → (t == s) ≡ b → conn_of setup payload x (e ∷ past) t ≡ conn_of setup payload x past t
-      by true i = subst (λ k. conn_of setup payload x (e ∷ past) k ≡ conn_of setup payload x past k) (sym (eqb-true t s i))
-          (no-conn (e ∷ past) (ap (λ (ls : List Lending). lending_on s ls) lent-own ∙ no-lending) ∙ sym (no-conn past no-lending))
-      by false d = same-conn setup payload x (e ∷ past) past t (route-by x t (state-else t d)) (lendings-stay e past plain-now x) lent-own (end-same x t)
+  conn-own =
+      at-or-beside (λ k. conn_of setup payload x (e ∷ past) k ≡ conn_of setup payload x past k) s
+      (no-conn (e ∷ past) (ap (λ (ls : List Lending). lending_on s ls) lent-own ∙ no-lending) ∙ sym (no-conn past no-lending))
+      (λ t d. same-conn setup payload x (e ∷ past) past t (route-by x t (state-else t d)) (lendings-stay e past plain-now x) lent-own (end-same x t))
 
   conn-theirs : (t : ℕ) → conn_of setup payload (other x) (e ∷ past) t ≡ conn_of setup payload (other x) past t
   conn-theirs t = same-conn setup payload (other x) (e ∷ past) past t (route-by (other x) t (state-theirs t)) (lendings-stay e past plain-now (other x)) lent-theirs (end-same (other x) t)
@@ -172,11 +166,10 @@ module _ (setup : Setup) (payload : List ℕ) (regions : List Buffer) (stage : S
   keeps-same = sides x own theirs
     where
       own : (t : ℕ) → keeps_element (end_state x t (e ∷ past)) ≡ keeps_element (end_state x t past)
-      own t = by (t == s) refl
-        where
-          by : (b : Bool) → (t == s) ≡ b → keeps_element (end_state x t (e ∷ past)) ≡ keeps_element (end_state x t past)
-          by true i = subst (λ k. keeps_element (end_state x k (e ∷ past)) ≡ keeps_element (end_state x k past)) (sym (eqb-true t s i)) (ap (λ st. keeps_element st) state-here ∙ sym waited)
-          by false d = ap (λ st. keeps_element st) (state-else t d)
+      own =
+          at-or-beside (λ k. keeps_element (end_state x k (e ∷ past)) ≡ keeps_element (end_state x k past)) s
+          (ap (λ st. keeps_element st) state-here ∙ sym waited)
+          (λ t d. ap (λ st. keeps_element st) (state-else t d))
 
       theirs : (t : ℕ) → keeps_element (end_state (other x) t (e ∷ past)) ≡ keeps_element (end_state (other x) t past)
       theirs t = ap (λ st. keeps_element st) (state-theirs t)

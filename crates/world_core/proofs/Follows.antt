@@ -14,7 +14,7 @@ use Rattle.pipe_model.specs.declared.sent.Sent.{Sent}
 use Rattle.pipe_model.specs.declared.closing.Phase.{Phase}
 use Rattle.pipe_model.specs.Closing.{cause_of, is_closing}
 use Rattle.pipe_model.specs.Ends.{Half, settle, is_due, meets_fate, takes, completes, counts_completed, batch, present, posts_batch, window, unread, to_land, to_complete, lands}
-use Rattle.pipe_model.specs.Calls.{Call, Writes, Reads, Finishes, Closes, Aborts, Awaits, Moves, calls, is_ended}
+use Rattle.pipe_model.specs.Calls.{Call, Writes, Reads, calls, is_ended}
 use Rattle.pipe_model.specs.Pipe.{Pipe, Terms, Item, Fate, GroupEnd, Up, Calls, Lands, Completes, half, pipe, apply}
 use Rattle.pipe_model.specs.Parts.{EachOf, IsFeasible, CanFollow, actor, is_broken, has_swallow, swallows, IsMarked}
 use Rattle.pipe_model.proofs.Chains.{next-of}
@@ -74,11 +74,7 @@ fate link Dead h k f = f
 call : (size : ℕ) (c : Call) (h k : Half) → keeps_open (Calls A c) ≡ true → Both h k → Both (calls size c h) k
 call size (Writes bytes) h k o f = pick h (record h { out = h.out ++ take (window size h) bytes }) k (is_some (cause_of h.phase) || is_ended h) f f
 call size (Reads n) h k o f = pick h (record h { rd = h.rd + min n (unread h) }) k (is_some (cause_of h.phase) || is_closing h.phase) f f
-call size Finishes h k o f = absurd (true≢false (sym o))
-call size Closes h k o f = absurd (true≢false (sym o))
-call size Aborts h k o f = absurd (true≢false (sym o))
-call size Awaits h k o f = absurd (true≢false (sym o))
-call size Moves h k o f = absurd (true≢false (sym o))
+call size _ h k o f = absurd (true≢false (sym o))
 
 abbrev IsOr : Option Sent → Type 0
 IsOr None = Unit {0}

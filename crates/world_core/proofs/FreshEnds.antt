@@ -283,15 +283,8 @@ live-has-up : (stage : Stage) (x : Side) → is_live_at x stage ≡ true → (t 
 live-has-up (LiveAtA t qp) A e = (t, λ k f. four k (own-step t 4 k (is_unoffered k) f))
 live-has-up (LiveAtBoth t) A e = (t, λ k f. five k A (own-step t 5 k (first_step k == 0) f))
 live-has-up (LiveAtBoth t) B e = (t, λ k f. five k B (own-step t 5 k (first_step k == 0) f))
-live-has-up (LiveAtA t qp) B e = absurd (true≢false (sym e))
-live-has-up NoLink A e = absurd (true≢false (sym e))
-live-has-up NoLink B e = absurd (true≢false (sym e))
-live-has-up (Begun t) A e = absurd (true≢false (sym e))
-live-has-up (Begun t) B e = absurd (true≢false (sym e))
-live-has-up (Made t) A e = absurd (true≢false (sym e))
-live-has-up (Made t) B e = absurd (true≢false (sym e))
-live-has-up (Asking t qp) A e = absurd (true≢false (sym e))
-live-has-up (Asking t qp) B e = absurd (true≢false (sym e))
+live-has-up _ A e = absurd (true≢false (sym e))
+live-has-up _ B e = absurd (true≢false (sym e))
 
 live-lasts : (setup : Setup) (from to : Stage) (e : Entry) (past : List Entry) → IsWorld setup from past → IsWorld setup to (e ∷ past) → (x : Side) → Lasts (held x from) (held x to)
 live-lasts setup from to e past was now x l =

@@ -12,7 +12,7 @@ use Rattle.pipe_model.specs.declared.closing.Phase.{Phase}
 use Rattle.pipe_model.specs.declared.sent.Sent.{Sent}
 use Rattle.pipe_model.specs.Closing.{cause_of, is_closing}
 use Rattle.pipe_model.specs.Ends.{Half, settle, is_due, meets_fate, takes, completes, batch, present, posts_batch, window, unread, to_land, to_complete}
-use Rattle.pipe_model.specs.Calls.{Call, Writes, Reads, Finishes, Closes, Aborts, Awaits, Moves, calls, is_ended}
+use Rattle.pipe_model.specs.Calls.{Call, Writes, Reads, calls, is_ended}
 use Rattle.pipe_model.specs.Pipe.{Pipe, Terms, Item, Fate, GroupEnd, Up, Calls, Lands, Completes, half, pipe, apply}
 use Rattle.pipe_model.specs.Parts.{IsFeasible, CanFollow, actor, is_broken, has_swallow, IsMarked}
 use Rattle.pipe_model.proofs.Chains.{next-of}
@@ -58,11 +58,7 @@ fate link Dead h g = g
 call : (size : ℕ) (c : Call) (h : Half) → keeps_open (Calls A c) ≡ true → GoesUp h → GoesUp (calls size c h)
 call size (Writes bytes) h o g = either (λ k. GoesUp k) h (record h { out = h.out ++ take (window size h) bytes }) (is_some (cause_of h.phase) || is_ended h) g g
 call size (Reads n) h o g = either (λ k. GoesUp k) h (record h { rd = h.rd + min n (unread h) }) (is_some (cause_of h.phase) || is_closing h.phase) g g
-call size Finishes h o g = absurd (true≢false (sym o))
-call size Closes h o g = absurd (true≢false (sym o))
-call size Aborts h o g = absurd (true≢false (sym o))
-call size Awaits h o g = absurd (true≢false (sym o))
-call size Moves h o g = absurd (true≢false (sym o))
+call size _ h o g = absurd (true≢false (sym o))
 
 taken : (o : Option Sent) (h : Half) → MaySent IsOpenSent o → IsOpenEnd h → GoesUp h → GoesUp (takes o h)
 taken None h q oh g = g

@@ -14,7 +14,7 @@ use Rattle.pipe_model.specs.declared.sent.Sent.{Sent}
 use Rattle.pipe_model.specs.Snapshot.{shows_gap}
 use Rattle.pipe_model.specs.Closing.{cause_of, is_closing, after_completing}
 use Rattle.pipe_model.specs.Ends.{Half, settle, is_due, is_over, meets_fate, takes, takes_snapshot, validates, strikes, completes, counts_completed, batch, posts_batch, window, unread, to_land, to_complete, lands}
-use Rattle.pipe_model.specs.Calls.{Call, Writes, Reads, Finishes, Closes, Aborts, Awaits, Moves, calls, is_ended}
+use Rattle.pipe_model.specs.Calls.{Call, Writes, Reads, calls, is_ended}
 use Rattle.pipe_model.specs.Pipe.{Pipe, Terms, Item, Fate, GroupEnd, Up, Calls, Lands, Completes, half, apply, step, sent_since}
 use Rattle.world_core.specs.Wired.{HasGone, passes_by}
 
@@ -67,11 +67,7 @@ fate-kept link Dead h = (refl, refl, refl)
 call-kept : (size : ℕ) (call : Call) (h : Half) → passes_by A (Calls A call) ≡ true → KeepsSent h (calls size call h)
 call-kept size (Writes bytes) h k = either (KeepsSent h) h (record h { out = h.out ++ take (window size h) bytes }) (is_some (cause_of h.phase) || is_ended h) (refl, refl, refl) (refl, refl, refl)
 call-kept size (Reads n) h k = either (KeepsSent h) h (record h { rd = h.rd + min n (unread h) }) (is_some (cause_of h.phase) || is_closing h.phase) (refl, refl, refl) (refl, refl, refl)
-call-kept size Finishes h k = absurd (true≢false (sym k))
-call-kept size Closes h k = absurd (true≢false (sym k))
-call-kept size Aborts h k = absurd (true≢false (sym k))
-call-kept size Awaits h k = absurd (true≢false (sym k))
-call-kept size Moves h k = absurd (true≢false (sym k))
+call-kept size _ h k = absurd (true≢false (sym k))
 
 kept : (size : ℕ) (x : Side) (item : Item) (p : Pipe) → passes_by x item ≡ true → KeepsSent (half x p) (half x (apply size item p))
 kept size A (Fate A link phase) p k = fate-kept link phase p.a

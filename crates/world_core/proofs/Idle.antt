@@ -13,7 +13,7 @@ use Rattle.pipe_model.specs.declared.sent.Sent.{Sent}
 use Rattle.pipe_model.specs.Snapshot.{shows_gap, tells_same}
 use Rattle.pipe_model.specs.Closing.{cause_of, is_closing, is_group_gone, after_completing}
 use Rattle.pipe_model.specs.Ends.{Half, fresh, settle, is_due, is_over, meets_fate, takes, takes_snapshot, validates, strikes, completes, counts_completed, batch, present, posts_batch, window, unread, to_land, to_complete, lands, comes_up}
-use Rattle.pipe_model.specs.Calls.{Call, Writes, Reads, Finishes, Closes, Aborts, Awaits, Moves, calls, is_ended}
+use Rattle.pipe_model.specs.Calls.{Call, Writes, Reads, calls, is_ended}
 use Rattle.pipe_model.specs.Pipe.{Pipe, Terms, Item, Fate, GroupEnd, Up, Calls, Lands, Completes, half, pipe, apply, step}
 use Rattle.pipe_model.specs.Parts.{EachOf}
 use Rattle.world_core.specs.Wired.{IsOnLink, EachUpOn, EachItem, keeps_open, HasGone, passes_by}
@@ -44,11 +44,7 @@ same-fate link Dead h = (refl, refl, refl)
 pub same-call : (size : ℕ) (call : Call) (h : Half) → keeps_open (Calls A call) ≡ true → IsSame h (calls size call h)
 same-call size (Writes bytes) h k = either (IsSame h) h (record h { out = h.out ++ take (window size h) bytes }) (is_some (cause_of h.phase) || is_ended h) (refl, refl, refl) (refl, refl, refl)
 same-call size (Reads n) h k = either (IsSame h) h (record h { rd = h.rd + min n (unread h) }) (is_some (cause_of h.phase) || is_closing h.phase) (refl, refl, refl) (refl, refl, refl)
-same-call size Finishes h k = absurd (true≢false (sym k))
-same-call size Closes h k = absurd (true≢false (sym k))
-same-call size Aborts h k = absurd (true≢false (sym k))
-same-call size Awaits h k = absurd (true≢false (sym k))
-same-call size Moves h k = absurd (true≢false (sym k))
+same-call size _ h k = absurd (true≢false (sym k))
 
 -- what holds of the first holds of the second
 module _ (P : Half → Type 0) (by : (h k : Half) → IsSame h k → P h → P k) (ups : LinkId → Type 0) (up : (link : LinkId) (h : Half) → ups link → P h → P (comes_up link h)) where

@@ -13,8 +13,10 @@ use Rattle.pipe_model.specs.Connections.{IsUp, named_link, is_up, early_state}
 use Rattle.pipe_model.specs.Lending.{Lending, lent}
 use Rattle.pipe_model.specs.Keys.{keys_of, book_of}
 use Rattle.world_core.specs.OneLink.{the_link, the_key, the_keys, Stage, NoLink, Begun, Made, Asking, LiveAtA, LiveAtBoth, keys_at, book_at}
-use Rattle.world_core.specs.Sockets.{Socket, Unopened, Fallen, Proposed, Refused, FirstAccepted, FirstConfirmed, AwaitsLink, FirstUpAtA, FirstUp, Accepted, AcceptRefused, AcceptFallen, Confirmed, Up, up_at, offered_at, on_link, is_unoffered, first_step, suits, IsWorld}
+use Rattle.world_core.specs.Sockets.{Socket, FirstUp, Up, up_at, offered_at, on_link, is_unoffered, first_step, suits, IsWorld}
 use Rattle.world_core.specs.Managers.{end_of, heard_on, awaits_confirm, lending_on}
+use Rattle.world_core.proofs.LinkFacts.{by-up}
+use Rattle.world_core.proofs.QuietEvents.{by-side}
 
 -- that the ends are those that the pipes say, and that an element is lent to each that is up
 pub record KnowsEnds (setup : Setup) (payload : List ℕ) (past : List Entry) : Type 0 where
@@ -34,24 +36,9 @@ pub record IsBehind (k : Socket) (x : Side) : Type 0 where
   pub no_second : (first_step k == 2) ≡ false
 
 pub behind : (k : Socket) (x : Side) → up_at k x ≡ true → IsBehind k x
-behind (FirstUpAtA o p) A u = record { offer = o; own = p; theirs = refl; ours = refl; of_b = inl refl; has_offer = refl; no_first = refl; no_second = refl }
-behind (FirstUpAtA o p) B u = absurd (true≢false (sym u))
-behind (FirstUp o p) A u = record { offer = o; own = p; theirs = refl; ours = refl; of_b = inl refl; has_offer = refl; no_first = refl; no_second = refl }
-behind (FirstUp o p) B u = record { offer = p; own = o; theirs = refl; ours = refl; of_b = inr refl; has_offer = refl; no_first = refl; no_second = refl }
-behind (Confirmed o p) A u = record { offer = o; own = p; theirs = refl; ours = refl; of_b = inl refl; has_offer = refl; no_first = refl; no_second = refl }
-behind (Confirmed o p) B u = absurd (true≢false (sym u))
-behind (Up o p) A u = record { offer = o; own = p; theirs = refl; ours = refl; of_b = inl refl; has_offer = refl; no_first = refl; no_second = refl }
-behind (Up o p) B u = record { offer = p; own = o; theirs = refl; ours = refl; of_b = inr refl; has_offer = refl; no_first = refl; no_second = refl }
-behind Unopened x u = absurd (true≢false (sym u))
-behind Fallen x u = absurd (true≢false (sym u))
-behind Proposed x u = absurd (true≢false (sym u))
-behind (Refused r) x u = absurd (true≢false (sym u))
-behind (FirstAccepted o) x u = absurd (true≢false (sym u))
-behind (FirstConfirmed o p) x u = absurd (true≢false (sym u))
-behind (AwaitsLink o p) x u = absurd (true≢false (sym u))
-behind (Accepted o) x u = absurd (true≢false (sym u))
-behind (AcceptRefused o r) x u = absurd (true≢false (sym u))
-behind (AcceptFallen o) x u = absurd (true≢false (sym u))
+behind =
+    by-up (λ k x. IsBehind k x) (λ o p. record { offer = o; own = p; theirs = refl; ours = refl; of_b = inl refl; has_offer = refl; no_first = refl; no_second = refl }) (λ o p. by-side (λ y. IsBehind (FirstUp o p) y) (record { offer = o; own = p; theirs = refl; ours = refl; of_b = inl refl; has_offer = refl; no_first = refl; no_second = refl }) (record { offer = p; own = o; theirs = refl; ours = refl; of_b = inr refl; has_offer = refl; no_first = refl; no_second = refl }))
+    (λ o p. record { offer = o; own = p; theirs = refl; ours = refl; of_b = inl refl; has_offer = refl; no_first = refl; no_second = refl }) (λ o p. by-side (λ y. IsBehind (Up o p) y) (record { offer = o; own = p; theirs = refl; ours = refl; of_b = inl refl; has_offer = refl; no_first = refl; no_second = refl }) (record { offer = p; own = o; theirs = refl; ours = refl; of_b = inr refl; has_offer = refl; no_first = refl; no_second = refl }))
 
 -- both sides know the keys then
 record AreKeyed (x : Side) (stage : Stage) : Type 0 where

@@ -14,7 +14,7 @@ use Rattle.pipe_model.specs.declared.sent.Sent.{Sent}
 use Rattle.pipe_model.specs.Snapshot.{shows_gap}
 use Rattle.pipe_model.specs.Closing.{cause_of, is_closing, after_completing}
 use Rattle.pipe_model.specs.Ends.{Half, settle, is_due, is_over, meets_fate, takes, takes_snapshot, validates, strikes, completes, counts_completed, batch, posts_batch, window, unread, to_land, to_complete}
-use Rattle.pipe_model.specs.Calls.{Call, Writes, Reads, Finishes, Closes, Aborts, Awaits, Moves, calls, is_ended}
+use Rattle.pipe_model.specs.Calls.{Call, Writes, Reads, calls, is_ended}
 use Rattle.pipe_model.specs.Pipe.{Pipe, Terms, Item, Fate, GroupEnd, Up, Calls, Lands, Completes, half, apply, pipe}
 use Rattle.world_core.specs.Wired.{EachItem, keeps_open}
 use Rattle.world_core.proofs.Growth.{either, settled-half}
@@ -74,11 +74,7 @@ fate-keeps link Dead h = (refl, refl)
 call-keeps : (size : ℕ) (call : Call) (h : Half) → keeps_open (Calls A call) ≡ true → Keeps h (calls size call h)
 call-keeps size (Writes bytes) h k = either (Keeps h) h (record h { out = h.out ++ take (window size h) bytes }) (is_some (cause_of h.phase) || is_ended h) (refl, refl) (refl, refl)
 call-keeps size (Reads n) h k = either (Keeps h) h (record h { rd = h.rd + min n (unread h) }) (is_some (cause_of h.phase) || is_closing h.phase) (refl, refl) (refl, refl)
-call-keeps size Finishes h k = absurd (true≢false (sym k))
-call-keeps size Closes h k = absurd (true≢false (sym k))
-call-keeps size Aborts h k = absurd (true≢false (sym k))
-call-keeps size Awaits h k = absurd (true≢false (sym k))
-call-keeps size Moves h k = absurd (true≢false (sym k))
+call-keeps size _ h k = absurd (true≢false (sym k))
 
 kept : (size : ℕ) (x : Side) (item : Item) (p : Pipe) → keeps_open item ≡ true → Keeps (half x p) (half x (apply size item p))
 kept size A (Fate A link phase) p k = fate-keeps link phase p.a

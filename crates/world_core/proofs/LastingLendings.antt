@@ -14,7 +14,7 @@ use Rattle.world_core.specs.Managers.{HasLendings, keeps_element, lending_due, l
 use Rattle.world_core.specs.OneLink.{Stage}
 use Rattle.world_core.specs.Played.{IsOneLink, IsPlayed}
 use Rattle.world_core.specs.Sockets.{HasWorld, IsWorld, early_at, end_at, offered_at}
-use Rattle.world_core.specs.Sockets.{Socket, Unopened, Fallen, Proposed, Refused, FirstAccepted, FirstConfirmed, AwaitsLink, FirstUpAtA, FirstUp, Accepted, AcceptRefused, AcceptFallen, Confirmed, Up}
+use Rattle.world_core.specs.Sockets.{Socket, FirstAccepted, FirstConfirmed, AwaitsLink, FirstUpAtA, FirstUp, Accepted, AcceptRefused, AcceptFallen, Confirmed, Up}
 use Rattle.world_core.proofs.LendingFacts.{found-lending, lends-for}
 use Rattle.pipe_model.specs.Connections.{EndState, HasFallen, end_state, early_state}
 use Rattle.world_core.proofs.PlayedWorlds.{played as has-world}
@@ -45,14 +45,8 @@ keeps-by (Confirmed o p) A e = refl
 keeps-by (Confirmed o p) B e = refl
 keeps-by (Up o p) A e = refl
 keeps-by (Up o p) B e = refl
-keeps-by (FirstAccepted o) A e = absurd (true≢false (sym e))
-keeps-by (Accepted o) A e = absurd (true≢false (sym e))
-keeps-by (AcceptRefused o r) A e = absurd (true≢false (sym e))
-keeps-by (AcceptFallen o) A e = absurd (true≢false (sym e))
-keeps-by Unopened x e = absurd (true≢false (sym e))
-keeps-by Fallen x e = absurd (true≢false (sym e))
-keeps-by Proposed x e = absurd (true≢false (sym e))
-keeps-by (Refused r) x e = absurd (true≢false (sym e))
+keeps-by _ A e = absurd (true≢false (sym e))
+keeps-by _ B e = absurd (true≢false (sym e))
 
 keeps-is : (setup : Setup) (stage : Stage) (past : List Entry) → IsWorld setup stage past → (x : Side) (s : ℕ) → is_some (offered x s past) ≡ true → keeps_element (end_state x s past) ≡ not (has_fallen (early_state x s past))
 keeps-is setup stage past w x s e =

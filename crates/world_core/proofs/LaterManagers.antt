@@ -23,7 +23,7 @@ use Rattle.smc_num.specs.Places.{all_places, is_free, rmb_at}
 use Rattle.smc_num.specs.declared.LinkId.{LinkId}
 use Rattle.smc_num.specs.declared.Side.{Side}
 use Rattle.smc_num.specs.declared.Side.TheVariants.{A, B}
-use Rattle.std.proofs.Common.{Bool, List, [], ap, cond, eq-eqb, eqb-true, false, filter, if◌then◌else◌, length, map, nat_lt, not, refl, subst, sym, true, ℕ, ◌&&◌, ◌++◌, ◌+◌, ◌-◌, ◌<◌, ◌==◌, ◌||◌, ◌∙◌, ◌∷◌, ◌≡◌}
+use Rattle.std.proofs.Common.{Bool, List, [], ap, cond, eq-eqb, false, filter, if◌then◌else◌, length, map, nat_lt, not, refl, subst, sym, true, ℕ, ◌&&◌, ◌++◌, ◌+◌, ◌-◌, ◌<◌, ◌==◌, ◌||◌, ◌∙◌, ◌∷◌, ◌≡◌}
 use Rattle.std.specs.List.{cons_option}
 use Rattle.std.specs.Option.{option_or}
 use Rattle.std.specs.Prelude.{None, Option, Some, is_some, option_map, slice_index_or, slice_set, unwrap_or}
@@ -32,7 +32,7 @@ use Rattle.world_core.proofs.Lendings.{lending-due, due-same}
 use Rattle.world_core.proofs.OpenEnds.{stays-out}
 use Rattle.world_core.proofs.QuietEntries.{all-stay}
 use Rattle.world_core.proofs.QuietEvents.{by-side, entry-of}
-use Rattle.world_core.proofs.SameManagers.{desk_from, rows_from, same-conn, same-spare, hand-same}
+use Rattle.world_core.proofs.SameManagers.{desk_from, rows_from, same-conn, same-spare, hand-same, heard-same}
 use Rattle.world_core.proofs.StartedRows.{epoch-here, eqb-sym, next-is, rows-change, spare-less, conn-beside}
 use Rattle.world_core.proofs.Tables.{at-socket, same-sockets, set-socket, sockets-long}
 use Rattle.world_core.specs.Managers.{HasLendings, awaits_confirm, conn_of, desk_of, each_socket, end_of, epoch_in, first_on, hand_of, heard_on, keeps_element, lending_due, lending_on, manager_of, route_of, rows_of}
@@ -51,7 +51,7 @@ use Rattle.world_core.proofs.PipeSteps.{rests}
 use Rattle.world_core.proofs.LinkManagers.{stage-desk, rise}
 use Rattle.side_core.specs.Records.{Connection, new_route}
 use Rattle.side_core.specs.Acting.{risen_at, risen_from}
-use Rattle.world_core.proofs.Plain.{if-same, and-false, plus-none}
+use Rattle.world_core.proofs.Plain.{if-same, and-false, plus-none, at-or-beside}
 use Rattle.std.proofs.Math.Numerals.{add-one}
 
 -- the entry of a Confirm of later contact
@@ -185,11 +185,10 @@ module _ (setup : Setup) (payload : List ℕ) (regions : List Buffer) (past : Li
   end-by y t is i = ap (λ (is : List Item). half y (pipe (terms_of setup) (is ++ part payload (group_on t past) t past))) i
 
   end-b : (t : ℕ) → end_of setup payload B t (e ∷ past) ≡ end_of setup payload B t past
-  end-b t = by (t == s) refl
-    where
-      by : (b : Bool) → (t == s) ≡ b → end_of setup payload B t (e ∷ past) ≡ end_of setup payload B t past
-      by true i = subst (λ k. end_of setup payload B k (e ∷ past) ≡ end_of setup payload B k past) (sym (eqb-true t s i)) (end-by B s (Up A the_link ∷ []) (items_here (group_on s past)) ∙ rests (terms_of setup) B (part payload (group_on s past) s past))
-      by false d = end-by B t [] (items_else (group_on t past) t d)
+  end-b =
+      at-or-beside (λ k. end_of setup payload B k (e ∷ past) ≡ end_of setup payload B k past) s
+      (end-by B s (Up A the_link ∷ []) (items_here (group_on s past)) ∙ rests (terms_of setup) B (part payload (group_on s past) s past))
+      (λ t d. end-by B t [] (items_else (group_on t past) t d))
 
   abbrev live : List LinkId
   live = live_links (desk_of setup payload A past).links.known
@@ -235,14 +234,11 @@ module _ (setup : Setup) (payload : List ℕ) (regions : List Buffer) (past : Li
       (end-by A t [] (items_else (group_on t past) t d)) (lending-else t d)
 
   heard-b : (t : ℕ) → heard_on B t (e ∷ past) ≡ heard_on B t past
-  heard-b t = by (t == s) refl
-    where
-      by : (b : Bool) → (t == s) ≡ b → heard_on B t (e ∷ past) ≡ heard_on B t past
-      by true i = subst (λ k. heard_on B k (e ∷ past) ≡ heard_on B k past) (sym (eqb-true t s i))
-          (ap (λ st. if awaits_confirm st then None else option_map (λ (p : Offered). p.offer) (offered A s (e ∷ past))) (state-b s ∙ waits)
-          ∙ sym (ap (λ st. if awaits_confirm st then None else option_map (λ (p : Offered). p.offer) (offered A s past)) waits))
-      by false d = ap (λ st. if awaits_confirm st then None else option_map (λ (p : Offered). p.offer) (offered A t (e ∷ past))) (state-b t)
-          ∙ ap (λ q. if awaits_confirm (end_state B t past) then None else option_map (λ (p : Offered). p.offer) q) (offer-else t d)
+  heard-b =
+      at-or-beside (λ k. heard_on B k (e ∷ past) ≡ heard_on B k past) s
+      (ap (λ st. if awaits_confirm st then None else option_map (λ (p : Offered). p.offer) (offered A s (e ∷ past))) (state-b s ∙ waits)
+      ∙ sym (ap (λ st. if awaits_confirm st then None else option_map (λ (p : Offered). p.offer) (offered A s past)) waits))
+      (λ t d. heard-same B (e ∷ past) past t (state-b t) (offer-else t d))
 
   conn-b : (t : ℕ) → conn_of setup payload B (e ∷ past) t ≡ conn_of setup payload B past t
   conn-b t = same-conn setup payload B (e ∷ past) past t (record { up = refl; link = refl; heard = heard-b t }) refl lent-b (end-b t)
@@ -304,12 +300,13 @@ module _ (setup : Setup) (payload : List ℕ) (regions : List Buffer) (past : Li
 
   -- each socket has its lending
   pub later-lendings : HasLendings setup payload (e ∷ past)
-  later-lendings = record { each = by-side (λ y. (t : ℕ) → lending_on t (lent setup payload y (e ∷ past)) ≡ lending_due y t (e ∷ past)) (λ t. of_a t (t == s) refl) of_b }
+  later-lendings = record { each = by-side (λ y. (t : ℕ) → lending_on t (lent setup payload y (e ∷ past)) ≡ lending_due y t (e ∷ past)) of_a of_b }
     where
       of_b : (t : ℕ) → lending_on t (lent setup payload B (e ∷ past)) ≡ lending_due B t (e ∷ past)
       of_b t = ap (λ (ls : List Lending). lending_on t ls) lent-b ∙ (lendings_are.each B t ∙ sym (due-same B t (e ∷ past) past (state-b t) refl))
 
-      of_a : (t : ℕ) (b : Bool) → (t == s) ≡ b → lending_on t (lent setup payload A (e ∷ past)) ≡ lending_due A t (e ∷ past)
-      of_a t true i = subst (λ k. lending_on k (lent setup payload A (e ∷ past)) ≡ lending_due A k (e ∷ past)) (sym (eqb-true t s i))
+      of_a : (t : ℕ) → lending_on t (lent setup payload A (e ∷ past)) ≡ lending_due A t (e ∷ past)
+      of_a =
+          at-or-beside (λ k. lending_on k (lent setup payload A (e ∷ past)) ≡ lending_due A k (e ∷ past)) s
           (lending-here ∙ sym (lending-due A s (e ∷ past) (record { link = the_link; offer = o }) offer-a (ap (λ st. keeps_element st) state-here)))
-      of_a t false d = lending-else t d ∙ (lendings_are.each A t ∙ sym (due-same A t (e ∷ past) past (state-else t d) (offer-else t d)))
+          (λ t d. lending-else t d ∙ (lendings_are.each A t ∙ sym (due-same A t (e ∷ past) past (state-else t d) (offer-else t d))))

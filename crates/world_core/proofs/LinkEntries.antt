@@ -142,6 +142,14 @@ module _ {x : Side} {from to : Stage} {reply : Bool} (setup : Setup) (payload : 
 
 -- the two landings
 module _ (setup : Setup) (payload : List ℕ) (regions : List Buffer) (past : List Entry) (lendings_are : HasLendings setup payload past) (placed : Placed) (actor n : ℕ) (posts : List Post) (p : Post) (is_llc : llc_of placed.post ≡ Some p) where
+  -- no message of an end lands with it
+  no-deeds : (dir from : Side) (message : LlcMessage) (s : ℕ) → post_at placed.at past ≡ Some placed.post → placed.post ≡ Llc from the_link message → deeds payload s (Deliver 1 dir) (Landed placed.at) past ≡ []
+  no-deeds dir from message s known is = by (offered (other dir) s past)
+    where
+      by : (o : Option Offered) → (if passes (λ o. names_cdc dir o.offer.token placed.at past) o then Lands dir ∷ [] else []) ≡ []
+      by None = refl
+      by (Some r) = ap (λ q. if passes (is_cdc dir (r.offer).token) q then Lands dir ∷ [] else []) (known ∙ ap (λ q. Some q) is)
+
   pub request-landed : (qp : ℕ) → IsWorld setup (Asking (first_on A past) qp) past → landing 1 B past ≡ Some placed
       → IsPlayed setup payload (entry-of actor (Deliver 1 B) (Landed placed.at) posts ∷ past) n → IsShaken setup (entry-of actor (Deliver 1 B) (Landed placed.at) posts ∷ past)
       → IsConfirmed setup payload regions A true (entry-of actor (Deliver 1 B) (Landed placed.at) posts) past
@@ -158,17 +166,10 @@ module _ (setup : Setup) (payload : List ℕ) (regions : List Buffer) (past : Li
         message = confirm_link setup B false the_link qp;
         act = ap (λ o. act_of A o past) known ∙ acts;
         idle = refl;
-        no_deeds = λ s. no-deeds B s known is;
+        no_deeds = λ s. no-deeds B B (confirm_link setup B false the_link qp) s known is;
         no_ups = by-side (λ y. (s : ℕ) → up_by y s (Deliver 1 B) (Landed placed.at) past ≡ None) (λ s. refl) (λ s. refl);
         early = by-side (λ y. (s : ℕ) (state : EndState) → after_event y s (Deliver 1 B) (Landed placed.at) state ≡ state) (λ s state. refl) (λ s state. refl);
       }) refl played shaken
-    where
-      no-deeds : (dir : Side) (s : ℕ) → post_at placed.at past ≡ Some placed.post → placed.post ≡ Llc B the_link (confirm_link setup B false the_link qp) → deeds payload s (Deliver 1 dir) (Landed placed.at) past ≡ []
-      no-deeds dir s known is = by (offered (other dir) s past)
-        where
-          by : (o : Option Offered) → (if passes (λ o. names_cdc dir o.offer.token placed.at past) o then Lands dir ∷ [] else []) ≡ []
-          by None = refl
-          by (Some r) = ap (λ q. if passes (is_cdc dir (r.offer).token) q then Lands dir ∷ [] else []) (known ∙ ap (λ q. Some q) is)
 
   pub answer-landed : (qp : ℕ) → IsWorld setup (LiveAtA (first_on B past) qp) past → landing 1 A past ≡ Some placed
       → IsPlayed setup payload (entry-of actor (Deliver 1 A) (Landed placed.at) posts ∷ past) n → IsShaken setup (entry-of actor (Deliver 1 A) (Landed placed.at) posts ∷ past)
@@ -186,14 +187,7 @@ module _ (setup : Setup) (payload : List ℕ) (regions : List Buffer) (past : Li
         message = confirm_link setup A true the_link qp;
         act = ap (λ o. act_of B o past) known ∙ acts;
         idle = refl;
-        no_deeds = λ s. no-deeds A s known is;
+        no_deeds = λ s. no-deeds A A (confirm_link setup A true the_link qp) s known is;
         no_ups = by-side (λ y. (s : ℕ) → up_by y s (Deliver 1 A) (Landed placed.at) past ≡ None) (λ s. refl) (λ s. refl);
         early = by-side (λ y. (s : ℕ) (state : EndState) → after_event y s (Deliver 1 A) (Landed placed.at) state ≡ state) (λ s state. refl) (λ s state. refl);
       }) refl played shaken
-    where
-      no-deeds : (dir : Side) (s : ℕ) → post_at placed.at past ≡ Some placed.post → placed.post ≡ Llc A the_link (confirm_link setup A true the_link qp) → deeds payload s (Deliver 1 dir) (Landed placed.at) past ≡ []
-      no-deeds dir s known is = by (offered (other dir) s past)
-        where
-          by : (o : Option Offered) → (if passes (λ o. names_cdc dir o.offer.token placed.at past) o then Lands dir ∷ [] else []) ≡ []
-          by None = refl
-          by (Some r) = ap (λ q. if passes (is_cdc dir (r.offer).token) q then Lands dir ∷ [] else []) (known ∙ ap (λ q. Some q) is)

@@ -167,6 +167,16 @@ up-as B (Up o p) e = in-later-both o p refl
 up-as A _ e = cc
 up-as B _ e = cc
 
+-- what holds of each of them holds of a socket with an end that is up
+pub by-up : (P : Socket → Side → Type 0) → ((o p : Offer) → P (FirstUpAtA o p) A) → ((o p : Offer) (x : Side) → P (FirstUp o p) x) → ((o p : Offer) → P (Confirmed o p) A) → ((o p : Offer) (x : Side) → P (Up o p) x)
+    → (k : Socket) (x : Side) → up_at k x ≡ true → P k x
+by-up P f b l u (FirstUpAtA o p) A e = f o p
+by-up P f b l u (FirstUp o p) x e = b o p x
+by-up P f b l u (Confirmed o p) A e = l o p
+by-up P f b l u (Up o p) x e = u o p x
+by-up P f b l u _ A e = cc
+by-up P f b l u _ B e = cc
+
 -- an end that is up: both sides have offered
 both-at : (x : Side) (k : Socket) → IsUpAs x k → (y : Side) → (o : Offer) × (offered_at k y ≡ on_link o)
 both-at x k (in-first o p e f) A = (p, ap (λ j. offered_at j A) f)
@@ -227,15 +237,8 @@ known-at : (stage : Stage) (x : Side) → is_live_at x stage ≡ true → (book_
 known-at (LiveAtA t qp) A e = (refl, refl)
 known-at (LiveAtBoth t) A e = (refl, refl)
 known-at (LiveAtBoth t) B e = (refl, refl)
-known-at (LiveAtA t qp) B e = cc
-known-at NoLink A e = cc
-known-at NoLink B e = cc
-known-at (Begun t) A e = cc
-known-at (Begun t) B e = cc
-known-at (Made t) A e = cc
-known-at (Made t) B e = cc
-known-at (Asking t qp) A e = cc
-known-at (Asking t qp) B e = cc
+known-at _ A e = cc
+known-at _ B e = cc
 
 bound-at : (x : Side) → bound 1 the_link (the_key x ∷ []) ≡ Some (the_key x).key
 bound-at A = refl

@@ -1,9 +1,8 @@
 -- The CDC message at the front of a wire is one that its end sent, told beside it plainly, and the manager at each side may take it.
-use Rattle.std.proofs.Common.{◌≡◌, ◌∙◌, ℕ, ◌-◌, ◌≤◌, ◌^◌, Bool, true, false, if◌then◌else◌, nat_lt, List, [], ◌∷◌, length, map, take, drop, zero, suc, refl, ap, sym, subst, true≢false, arith, ltb-true}
+use Rattle.std.proofs.Common.{◌≡◌, ◌∙◌, ℕ, ◌-◌, ◌≤◌, ◌^◌, Bool, true, false, if◌then◌else◌, nat_lt, List, [], ◌∷◌, length, map, take, drop, suc, refl, ap, sym, subst, true≢false, arith, ltb-true}
 use Rattle.std.specs.Prelude.{Option, Some, None, is_some, option_map, unwrap_or}
 use Rattle.std.specs.List.{cons_option}
 use Rattle.smc_num.specs.declared.Side.{Side}
-use Rattle.smc_num.specs.declared.Side.TheVariants.{A, B}
 use Rattle.smc_num.specs.declared.LinkId.{LinkId}
 use Rattle.smc_num.specs.Names.{other, same_side, same_link, head}
 use Rattle.cdc_wire.specs.declared.CdcMessage.{CdcMessage}
@@ -36,7 +35,7 @@ use Rattle.side_core.specs.Comings.{Arrives, MayArriveAt, ArrivesAt, MayComplete
 use Rattle.side_core.specs.Landing.{MayLandIn, LandsIn, MayCompleteIn, CompletesIn, dropped, dropped_by}
 use Rattle.world_core.specs.Played.{IsPlayed}
 use Rattle.world_core.specs.OneLink.{the_link}
-use Rattle.world_core.specs.Sockets.{Socket, Unopened, Fallen, Proposed, Refused, FirstAccepted, FirstConfirmed, AwaitsLink, FirstUpAtA, FirstUp, Accepted, AcceptRefused, AcceptFallen, Confirmed, Up, up_at, end_at}
+use Rattle.world_core.specs.Sockets.{Socket, FirstUp, Up, up_at, end_at}
 use Rattle.world_core.specs.Wired.{cdc_under, returning}
 use Rattle.world_core.specs.WireSteps.{IsPlaced, EachPlaced}
 use Rattle.world_core.specs.Agreement.{HasPipe, Spelling, next_to_land, next_to_complete}
@@ -54,27 +53,15 @@ use Rattle.world_core.proofs.Pipes.{has-pipe}
 use Rattle.world_core.proofs.SoundEnds.{sound-at}
 use Rattle.world_core.proofs.EndRecords.{KeptBeside, UpConn, plain_conn, up-conn, plain-there, kept-there, holder-is}
 use Rattle.world_core.proofs.Plain.{and-left, same-is}
+use Rattle.world_core.proofs.LinkFacts.{by-up}
+use Rattle.world_core.proofs.QuietEvents.{by-side}
+use Rattle.world_core.proofs.Agreement.{none-first}
 
 -- the end of the peer of one that is up keeps its element
 peer-keeps : (k : Socket) (x : Side) → up_at k x ≡ true → keeps_element (end_at k (other x)) ≡ true
-peer-keeps (FirstUpAtA o p) A e = refl
-peer-keeps (FirstUpAtA o p) B e = absurd (true≢false (sym e))
-peer-keeps (FirstUp o p) A e = refl
-peer-keeps (FirstUp o p) B e = refl
-peer-keeps (Confirmed o p) A e = refl
-peer-keeps (Confirmed o p) B e = absurd (true≢false (sym e))
-peer-keeps (Up o p) A e = refl
-peer-keeps (Up o p) B e = refl
-peer-keeps Unopened x e = absurd (true≢false (sym e))
-peer-keeps Fallen x e = absurd (true≢false (sym e))
-peer-keeps Proposed x e = absurd (true≢false (sym e))
-peer-keeps (Refused r) x e = absurd (true≢false (sym e))
-peer-keeps (FirstAccepted o) x e = absurd (true≢false (sym e))
-peer-keeps (FirstConfirmed o p) x e = absurd (true≢false (sym e))
-peer-keeps (AwaitsLink o p) x e = absurd (true≢false (sym e))
-peer-keeps (Accepted o) x e = absurd (true≢false (sym e))
-peer-keeps (AcceptRefused o r) x e = absurd (true≢false (sym e))
-peer-keeps (AcceptFallen o) x e = absurd (true≢false (sym e))
+peer-keeps =
+    by-up (λ k y. keeps_element (end_at k (other y)) ≡ true) (λ o p. refl) (λ o p. by-side (λ y. keeps_element (end_at (FirstUp o p) (other y)) ≡ true) refl refl) (λ o p. refl)
+    (λ o p. by-side (λ y. keeps_element (end_at (Up o p) (other y)) ≡ true) refl refl)
 
 -- the first of a queue stands beside the first of what an end has under way
 first-shot : (ms : List Sent) (r : Sent) → head ms ≡ Some r → head (shots ms) ≡ Some r.snapshot
@@ -104,14 +91,6 @@ next-is h r e = by (nat_lt h.completed h.landed) refl e
         let l = ltb-true h.completed h.landed t in
         let n : h.landed - h.completed ≡ suc (h.landed - h.completed - 1) = omega (arith, l) in
         (e, ap (λ n. head (take n (to_complete h))) n ∙ (head-take (h.landed - h.completed - 1) (to_complete h) ∙ e))
-
--- what has something under way has sent
-some-sent : (m : Sent) (ms : List Sent) (i : ℕ) → head (drop i ms) ≡ Some m → ms ≡ [] → ⊥
-some-sent m ms i e f = nothing i (sym (ap (λ ns. head (drop i ns)) f) ∙ e)
-  where
-    nothing : (j : ℕ) → head (drop j []) ≡ Some m → ⊥
-    nothing zero g = true≢false (sym (ap (λ (q : Option Sent). is_some q) g))
-    nothing (suc j) g = true≢false (sym (ap (λ (q : Option Sent). is_some q) g))
 
 same-offer : (o : Option Offered) (a b : Offered) → o ≡ Some a → o ≡ Some b → a.offer.token ≡ b.offer.token
 same-offer o a b e f = ap (λ (p : Option Offered). unwrap_or (option_map (λ (r : Offered). r.offer.token) p) 0) (sym e ∙ f)
@@ -162,7 +141,7 @@ module _ (setup : Setup) (payload : List ℕ) (set : IsWorldSet setup payload) (
   -- an end with a message under way is up
   sender-up : (s : ℕ) (m : Sent) (i : ℕ) → head (drop i (end_of setup payload x s past).sent) ≡ Some m → (u : Bool) → is_up x s past ≡ u → u ≡ true
   sender-up s m i e true f = refl
-  sender-up s m i e false f = let q = has-pipe setup payload s past n p (shaken setup set.one payload past n p) in absurd (some-sent m (end_of setup payload x s past).sent i e (q.idle x f))
+  sender-up s m i e false f = let q = has-pipe setup payload s past n p (shaken setup set.one payload past n p) in absurd (none-first m (end_of setup payload x s past).sent i e (q.idle x f))
 
   -- told plainly, in the pipe of its socket
   tells : (w : Queues) → IsWireAfter setup payload x past w → (s : ℕ) (o : Offered) → offered (other x) s past ≡ Some o → TellsPlainly x o.offer.token w (end_of setup payload x s past)

@@ -1,10 +1,9 @@
 -- No end of a lending is ever over, so that each offered element stays lent; and no CDC message is dropped.
-use Rattle.std.proofs.Common.{◌≡◌, ◌∙◌, ℕ, Bool, true, false, List, [], ◌∷◌, refl, ap, sym, true≢false, drop, suc, zero}
-use Rattle.std.specs.Prelude.{Option, Some, is_some}
+use Rattle.std.proofs.Common.{◌≡◌, ◌∙◌, ℕ, Bool, true, false, List, [], ◌∷◌, refl, ap, sym}
+use Rattle.std.specs.Prelude.{Some}
 use Rattle.smc_num.specs.declared.Side.{Side}
-use Rattle.smc_num.specs.declared.Side.TheVariants.{A, B}
 use Rattle.smc_num.specs.declared.LinkId.{LinkId}
-use Rattle.smc_num.specs.Names.{other, head}
+use Rattle.smc_num.specs.Names.{other}
 use Rattle.cdc_wire.specs.declared.CdcMessage.{CdcMessage}
 use Rattle.pipe_model.specs.declared.setup.Setup.{Setup}
 use Rattle.pipe_model.specs.declared.sent.Sent.{Sent}
@@ -20,7 +19,7 @@ use Rattle.pipe_model.specs.Lending.{terms_of, pipe_of, record_of}
 use Rattle.pipe_model.specs.Fallback.{is_fallen_state, is_fallen}
 use Rattle.world_core.specs.Played.{IsOneLink, IsPlayed}
 use Rattle.world_core.specs.OneLink.{the_link}
-use Rattle.world_core.specs.Sockets.{Socket, Unopened, Fallen, Proposed, Refused, FirstAccepted, FirstConfirmed, AwaitsLink, FirstUpAtA, FirstUp, Accepted, AcceptRefused, AcceptFallen, Confirmed, Up, end_at, up_at, on_link}
+use Rattle.world_core.specs.Sockets.{Socket, FirstUp, Up, end_at, up_at, on_link}
 use Rattle.world_core.specs.Lent.{WasNeverOver}
 use Rattle.world_core.specs.Agreement.{Spelling, NamesRecord, next_to_land}
 use Rattle.world_core.proofs.OpenEnds.{never-over}
@@ -31,27 +30,15 @@ use Rattle.world_core.proofs.Pipes.{has-pipe}
 use Rattle.world_core.proofs.Heads.{lands-spelled}
 use Rattle.world_core.proofs.Records.{still-lent}
 use Rattle.world_core.proofs.Handshaken.{shaken, has-offers}
+use Rattle.world_core.proofs.LinkFacts.{by-up}
+use Rattle.world_core.proofs.QuietEvents.{by-side}
+use Rattle.world_core.proofs.Agreement.{none-first}
 
 -- where one end is up, its peer has not fallen back
 not-fallen : (k : Socket) (x : Side) → up_at k x ≡ true → is_fallen_state (end_at k (other x)) ≡ false
-not-fallen (FirstUpAtA o p) A e = refl
-not-fallen (FirstUpAtA o p) B e = absurd (true≢false (sym e))
-not-fallen (FirstUp o p) A e = refl
-not-fallen (FirstUp o p) B e = refl
-not-fallen (Confirmed o p) A e = refl
-not-fallen (Confirmed o p) B e = absurd (true≢false (sym e))
-not-fallen (Up o p) A e = refl
-not-fallen (Up o p) B e = refl
-not-fallen Unopened x e = absurd (true≢false (sym e))
-not-fallen Fallen x e = absurd (true≢false (sym e))
-not-fallen Proposed x e = absurd (true≢false (sym e))
-not-fallen (Refused r) x e = absurd (true≢false (sym e))
-not-fallen (FirstAccepted o) x e = absurd (true≢false (sym e))
-not-fallen (FirstConfirmed o p) x e = absurd (true≢false (sym e))
-not-fallen (AwaitsLink o p) x e = absurd (true≢false (sym e))
-not-fallen (Accepted o) x e = absurd (true≢false (sym e))
-not-fallen (AcceptRefused o r) x e = absurd (true≢false (sym e))
-not-fallen (AcceptFallen o) x e = absurd (true≢false (sym e))
+not-fallen =
+    by-up (λ k y. is_fallen_state (end_at k (other y)) ≡ false) (λ o p. refl) (λ o p. by-side (λ y. is_fallen_state (end_at (FirstUp o p) (other y)) ≡ false) refl refl) (λ o p. refl)
+    (λ o p. by-side (λ y. is_fallen_state (end_at (Up o p) (other y)) ≡ false) refl refl)
 
 module _ (setup : Setup) (one : IsOneLink setup) (payload : List ℕ) where
   pub was-never-over : (past : List Entry) (n : ℕ) → IsPlayed setup payload past n → (x : Side) → WasNeverOver setup payload x past
@@ -70,20 +57,13 @@ module _ (setup : Setup) (one : IsOneLink setup) (payload : List ℕ) where
       let at = h.stands in
       ap (λ state. is_fallen_state state) (end-is setup h.at s past at (other x)) ∙ not-fallen h.at x (sym (at.up x) ∙ u)
 
-  some-not-none : (m : Sent) (ms : List Sent) (i : ℕ) → head (drop i ms) ≡ Some m → ms ≡ [] → ⊥
-  some-not-none m ms i e f = nothing i (sym (ap (λ ns. head (drop i ns)) f) ∙ e)
-    where
-      nothing : (j : ℕ) → head (drop j []) ≡ Some m → ⊥
-      nothing zero g = true≢false (sym (ap (λ (q : Option Sent). is_some q) g))
-      nothing (suc j) g = true≢false (sym (ap (λ (q : Option Sent). is_some q) g))
-
   -- an end with something to land is up
   sends-up : (past : List Entry) (n : ℕ) → IsPlayed setup payload past n → (x : Side) (s : ℕ) (m : Sent) → next_to_land (half x (pipe_of setup payload (group_on s past) s past)) ≡ Some m → (u : Bool) → is_up x s past ≡ u → u ≡ true
   sends-up past n p x s m e true f = refl
   sends-up past n p x s m e false f =
       let q = has-pipe setup payload s past n p (shaken setup one payload past n p) in
       let h : Half = half x (pipe_of setup payload (group_on s past) s past) in
-      absurd (some-not-none m h.sent h.landed e (q.idle x f))
+      absurd (none-first m h.sent h.landed e (q.idle x f))
 
   on-link-is : (o : Offered) → o.link ≡ the_link → Some o ≡ on_link o.offer
   on-link-is o e = ap (λ l. Some (record { link = l; offer = o.offer })) e

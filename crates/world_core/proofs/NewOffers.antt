@@ -27,7 +27,7 @@ use Rattle.pipe_model.specs.declared.post.Post.{Post}
 use Rattle.pipe_model.specs.declared.post.Post.TheVariants.{Write as WritePost, Cdc, Llc, Clc}
 use Rattle.pipe_model.specs.declared.entry.Entry.{Entry}
 use Rattle.pipe_model.specs.History.{Offered, offered, offer_in, offered_if}
-use Rattle.pipe_model.specs.Connections.{EndState, NoEnd, WaitsProposal, WaitsAnswer, WaitsConfirm, WaitsLink, IsUp, HasFallen, WasReset, end_state}
+use Rattle.pipe_model.specs.Connections.{EndState, WaitsProposal, WaitsAnswer, WaitsConfirm, end_state}
 use Rattle.pipe_model.specs.Handshake.{key_step, on_proposal, on_accept, on_confirm, verdict, lacks}
 use Rattle.pipe_model.specs.Flows.{is_asked, is_deleting}
 use Rattle.pipe_model.specs.Fabric.{act_of}
@@ -38,7 +38,7 @@ use Rattle.pipe_model.specs.Posts.{new_offer, clc_posts, ready_posts, first_link
 use Rattle.pipe_model.specs.Replies.{clc_step}
 use Rattle.pipe_model.specs.Lawful.{front_posts, asked}
 use Rattle.world_core.specs.Played.{IsBuilt}
-use Rattle.world_core.specs.Sockets.{Socket, Unopened, Fallen, Proposed, Refused, FirstAccepted, FirstConfirmed, AwaitsLink, FirstUpAtA, FirstUp, Accepted, AcceptRefused, AcceptFallen, Confirmed, Up, StandsAt, end_at, offered_at}
+use Rattle.world_core.specs.Sockets.{Socket, Proposed, Refused, FirstAccepted, Accepted, StandsAt, end_at, offered_at}
 use Rattle.world_core.specs.WireSteps.{EachPost}
 use Rattle.world_core.proofs.TakenMessages.{end-is}
 use Rattle.world_core.proofs.AskedPosts.{IsLlc, either-llc, of-act}
@@ -86,83 +86,30 @@ confirm-no f raw o l w r t = if-no f raw (Wrong ConfirmKind) _ w (if-no f (o.psn
 accepts-in : (raw : Bool) (state : EndState) (m : ClcMessage) (l : Lacks) → accepts (verdict raw state m l) ≡ true → waits_proposal state ≡ true
 accepts-in raw WaitsProposal m l e = refl
 accepts-in raw WaitsAnswer (AcceptMessage o) l e = absurd (true≢false (sym e ∙ accept-accepts o l))
-accepts-in raw WaitsAnswer (DeclineMessage r) l e = e
-accepts-in raw WaitsAnswer (ProposalMessage p) l e = e
-accepts-in raw WaitsAnswer (ConfirmMessage o) l e = e
 accepts-in raw WaitsConfirm (ConfirmMessage o) l e = absurd (true≢false (sym e ∙ confirm-no accepts raw o l refl refl refl))
-accepts-in raw WaitsConfirm (DeclineMessage r) l e = e
-accepts-in raw WaitsConfirm (ProposalMessage p) l e = e
-accepts-in raw WaitsConfirm (AcceptMessage o) l e = e
-accepts-in raw NoEnd m l e = e
-accepts-in raw WaitsLink m l e = e
-accepts-in raw IsUp m l e = e
-accepts-in raw HasFallen m l e = e
-accepts-in raw (WasReset cause) m l e = e
+accepts-in raw _ m l e = e
 
 confirms-in : (raw : Bool) (state : EndState) (m : ClcMessage) (l : Lacks) → confirms (verdict raw state m l) ≡ true → waits_answer state ≡ true
 confirms-in raw WaitsAnswer m l e = refl
 confirms-in raw WaitsProposal (ProposalMessage p) l e = absurd (true≢false (sym e ∙ proposal-confirms raw p l))
-confirms-in raw WaitsProposal (DeclineMessage r) l e = e
-confirms-in raw WaitsProposal (AcceptMessage p) l e = e
-confirms-in raw WaitsProposal (ConfirmMessage o) l e = e
 confirms-in raw WaitsConfirm (ConfirmMessage o) l e = absurd (true≢false (sym e ∙ confirm-no confirms raw o l refl refl refl))
-confirms-in raw WaitsConfirm (DeclineMessage r) l e = e
-confirms-in raw WaitsConfirm (ProposalMessage p) l e = e
-confirms-in raw WaitsConfirm (AcceptMessage o) l e = e
-confirms-in raw NoEnd m l e = e
-confirms-in raw WaitsLink m l e = e
-confirms-in raw IsUp m l e = e
-confirms-in raw HasFallen m l e = e
-confirms-in raw (WasReset cause) m l e = e
+confirms-in raw _ m l e = e
 
 -- B alone waits for a Proposal, and has not offered then; A alone waits for an Accept, and has not offered then
 proposal-at : (k : Socket) (y : Side) → waits_proposal (end_at k y) ≡ true → (y ≡ B) × (offered_at k y ≡ None)
 proposal-at Proposed B e = (refl, refl)
 proposal-at Proposed A e = absurd (true≢false (sym e))
-proposal-at Unopened x e = absurd (true≢false (sym e))
-proposal-at Fallen x e = absurd (true≢false (sym e))
-proposal-at (Refused r) A e = absurd (true≢false (sym e))
-proposal-at (Refused r) B e = absurd (true≢false (sym e))
-proposal-at (FirstAccepted o) A e = absurd (true≢false (sym e))
-proposal-at (FirstAccepted o) B e = absurd (true≢false (sym e))
-proposal-at (FirstConfirmed o p) A e = absurd (true≢false (sym e))
-proposal-at (FirstConfirmed o p) B e = absurd (true≢false (sym e))
-proposal-at (AwaitsLink o p) x e = absurd (true≢false (sym e))
-proposal-at (FirstUpAtA o p) A e = absurd (true≢false (sym e))
-proposal-at (FirstUpAtA o p) B e = absurd (true≢false (sym e))
-proposal-at (FirstUp o p) x e = absurd (true≢false (sym e))
-proposal-at (Accepted o) A e = absurd (true≢false (sym e))
-proposal-at (Accepted o) B e = absurd (true≢false (sym e))
-proposal-at (AcceptRefused o r) A e = absurd (true≢false (sym e))
-proposal-at (AcceptRefused o r) B e = absurd (true≢false (sym e))
-proposal-at (AcceptFallen o) x e = absurd (true≢false (sym e))
-proposal-at (Confirmed o p) A e = absurd (true≢false (sym e))
-proposal-at (Confirmed o p) B e = absurd (true≢false (sym e))
-proposal-at (Up o p) x e = absurd (true≢false (sym e))
+proposal-at _ A e = absurd (true≢false (sym e))
+proposal-at _ B e = absurd (true≢false (sym e))
 
 answer-at : (k : Socket) (y : Side) → waits_answer (end_at k y) ≡ true → (y ≡ A) × (offered_at k y ≡ None)
 answer-at Proposed A e = (refl, refl)
 answer-at Proposed B e = absurd (true≢false (sym e))
-answer-at Unopened x e = absurd (true≢false (sym e))
-answer-at Fallen x e = absurd (true≢false (sym e))
 answer-at (Refused r) A e = (refl, refl)
-answer-at (Refused r) B e = absurd (true≢false (sym e))
 answer-at (FirstAccepted o) A e = (refl, refl)
-answer-at (FirstAccepted o) B e = absurd (true≢false (sym e))
-answer-at (FirstConfirmed o p) A e = absurd (true≢false (sym e))
-answer-at (FirstConfirmed o p) B e = absurd (true≢false (sym e))
-answer-at (AwaitsLink o p) x e = absurd (true≢false (sym e))
-answer-at (FirstUpAtA o p) A e = absurd (true≢false (sym e))
-answer-at (FirstUpAtA o p) B e = absurd (true≢false (sym e))
-answer-at (FirstUp o p) x e = absurd (true≢false (sym e))
 answer-at (Accepted o) A e = (refl, refl)
-answer-at (Accepted o) B e = absurd (true≢false (sym e))
-answer-at (AcceptRefused o r) A e = absurd (true≢false (sym e))
-answer-at (AcceptRefused o r) B e = absurd (true≢false (sym e))
-answer-at (AcceptFallen o) x e = absurd (true≢false (sym e))
-answer-at (Confirmed o p) A e = absurd (true≢false (sym e))
-answer-at (Confirmed o p) B e = absurd (true≢false (sym e))
-answer-at (Up o p) x e = absurd (true≢false (sym e))
+answer-at _ A e = absurd (true≢false (sym e))
+answer-at _ B e = absurd (true≢false (sym e))
 
 -- where a socket stands
 pub record HasSocketAt (setup : Setup) (s : ℕ) (past : List Entry) : Type 0 where

@@ -68,19 +68,7 @@ end-there (Up o p) = refl
 
 none-there : (k : Socket) → opened_at k ≡ false → (x : Side) → end_at k x ≡ NoEnd
 none-there Unopened e = by-side (λ x. end_at Unopened x ≡ NoEnd) refl refl
-none-there Fallen e = absurd (true≢false e)
-none-there Proposed e = absurd (true≢false e)
-none-there (Refused r) e = absurd (true≢false e)
-none-there (FirstAccepted o) e = absurd (true≢false e)
-none-there (FirstConfirmed o p) e = absurd (true≢false e)
-none-there (AwaitsLink o p) e = absurd (true≢false e)
-none-there (FirstUpAtA o p) e = absurd (true≢false e)
-none-there (FirstUp o p) e = absurd (true≢false e)
-none-there (Accepted o) e = absurd (true≢false e)
-none-there (AcceptRefused o r) e = absurd (true≢false e)
-none-there (AcceptFallen o) e = absurd (true≢false e)
-none-there (Confirmed o p) e = absurd (true≢false e)
-none-there (Up o p) e = absurd (true≢false e)
+none-there _ e = absurd (true≢false e)
 
 -- what an opening is told, by what was opened and who is capable
 abbrev Told : Bool → Bool → Bool → Bool → Reply

@@ -1,6 +1,6 @@
 -- Posts that offer nothing and ask for no key: what the pipes post, CLC messages with no offer, and CONFIRM LINK with its reply.
 use Rattle.std.proofs.Common.{◌≡◌, ◌∙◌, ℕ, ◌+◌, ◌==◌, Bool, true, false, cond, if◌then◌else◌, List, [], ◌∷◌, ◌++◌, length, map, filter, filter_map, refl, ap}
-use Rattle.std.specs.Prelude.{Option, Some, None, unwrap_or, fold}
+use Rattle.std.specs.Prelude.{Option, Some, None, unwrap_or, fold, option_map}
 use Rattle.std.specs.List.{cons_option}
 use Rattle.std.specs.Option.{option_or}
 use Rattle.smc_num.specs.declared.Side.{Side}
@@ -9,7 +9,7 @@ use Rattle.clc_wire.specs.declared.message.ClcMessage.{ClcMessage}
 use Rattle.clc_wire.specs.declared.message.ClcMessage.TheVariants.{Proposal, Accept, Confirm, Decline}
 use Rattle.cdc_wire.specs.declared.CdcMessage.{CdcMessage}
 use Rattle.smc_num.specs.declared.Side.TheVariants.{A, B}
-use Rattle.smc_num.specs.Names.{at_side, head, up_to}
+use Rattle.smc_num.specs.Names.{at_side, head, up_to, other}
 use Rattle.smc_num.specs.Links.{Known}
 use Rattle.llc_wire.specs.declared.LlcMessage.{LlcMessage}
 use Rattle.llc_wire.specs.declared.LlcMessage.TheVariants.{ConfirmLink}
@@ -30,7 +30,10 @@ use Rattle.pipe_model.specs.Posts.{begins_group_in, groups_begun}
 use Rattle.side_core.specs.Desk.{most_slots}
 use Rattle.world_core.specs.Views.{is_data, AreData}
 use Rattle.world_core.specs.Managers.{begins_on, first_on}
-use Rattle.world_core.proofs.Plain.{plus-none}
+use Rattle.world_core.proofs.Plain.{plus-none, none-asked}
+use Rattle.world_core.proofs.QuietEvents.{by-side}
+use Rattle.world_core.proofs.SameManagers.{SameRoute, heard-same}
+use Rattle.pipe_model.specs.Connections.{is_up, end_state}
 
 -- whether an LLC message is CONFIRM LINK or the reply to it
 abbrev pub confirms : LlcMessage → Bool
@@ -86,52 +89,20 @@ skip-asked Grow (Sent AddLinkSent) = by-plain (λ p. asked_pair Grow (Sent AddLi
 skip-asked event reply = λ p e. refl
 
 skip-pair : (x : Side) (p : Post) → is_plain p ≡ true → pair_in x p ≡ 0
-skip-pair A = by-plain (λ p. pair_in A p ≡ 0) (λ from link key address len. refl) (λ from link m. refl) (λ from s m o. none from s m) (λ from link reply mac gid qp slot user most. refl)
-  where
-    none : (from : Side) (s : ℕ) (m : ClcMessage) → pair_in A (Clc from s None m) ≡ 0
-    none A s m = refl
-    none B s m = refl
-skip-pair B = by-plain (λ p. pair_in B p ≡ 0) (λ from link key address len. refl) (λ from link m. refl) (λ from s m o. none from s m) (λ from link reply mac gid qp slot user most. refl)
-  where
-    none : (from : Side) (s : ℕ) (m : ClcMessage) → pair_in B (Clc from s None m) ≡ 0
-    none A s m = refl
-    none B s m = refl
+skip-pair A = by-plain (λ p. pair_in A p ≡ 0) (λ from link key address len. refl) (λ from link m. refl) (λ from s m o. by-side (λ y. pair_in A (Clc y s None m) ≡ 0) refl refl from) (λ from link reply mac gid qp slot user most. refl)
+skip-pair B = by-plain (λ p. pair_in B p ≡ 0) (λ from link key address len. refl) (λ from link m. refl) (λ from s m o. by-side (λ y. pair_in B (Clc y s None m) ≡ 0) refl refl from) (λ from link reply mac gid qp slot user most. refl)
 
 skip-lending : (x : Side) (p : Post) → is_plain p ≡ true → lends x p ≡ None
-skip-lending A = by-plain (λ p. lends A p ≡ None) (λ from link key address len. refl) (λ from link m. refl) (λ from s m o. none from s m) (λ from link reply mac gid qp slot user most. refl)
-  where
-    none : (from : Side) (s : ℕ) (m : ClcMessage) → lends A (Clc from s None m) ≡ None
-    none A s m = refl
-    none B s m = refl
-skip-lending B = by-plain (λ p. lends B p ≡ None) (λ from link key address len. refl) (λ from link m. refl) (λ from s m o. none from s m) (λ from link reply mac gid qp slot user most. refl)
-  where
-    none : (from : Side) (s : ℕ) (m : ClcMessage) → lends B (Clc from s None m) ≡ None
-    none A s m = refl
-    none B s m = refl
+skip-lending A = by-plain (λ p. lends A p ≡ None) (λ from link key address len. refl) (λ from link m. refl) (λ from s m o. by-side (λ y. lends A (Clc y s None m) ≡ None) refl refl from) (λ from link reply mac gid qp slot user most. refl)
+skip-lending B = by-plain (λ p. lends B p ≡ None) (λ from link key address len. refl) (λ from link m. refl) (λ from s m o. by-side (λ y. lends B (Clc y s None m) ≡ None) refl refl from) (λ from link reply mac gid qp slot user most. refl)
 
 skip-beginning : (x : Side) (p : Post) → is_plain p ≡ true → begins_on x p ≡ None
-skip-beginning A = by-plain (λ p. begins_on A p ≡ None) (λ from link key address len. refl) (λ from link m. refl) (λ from s m o. none from s m) (λ from link reply mac gid qp slot user most. refl)
-  where
-    none : (from : Side) (s : ℕ) (m : ClcMessage) → begins_on A (Clc from s None m) ≡ None
-    none A s m = refl
-    none B s m = refl
-skip-beginning B = by-plain (λ p. begins_on B p ≡ None) (λ from link key address len. refl) (λ from link m. refl) (λ from s m o. none from s m) (λ from link reply mac gid qp slot user most. refl)
-  where
-    none : (from : Side) (s : ℕ) (m : ClcMessage) → begins_on B (Clc from s None m) ≡ None
-    none A s m = refl
-    none B s m = refl
+skip-beginning A = by-plain (λ p. begins_on A p ≡ None) (λ from link key address len. refl) (λ from link m. refl) (λ from s m o. by-side (λ y. begins_on A (Clc y s None m) ≡ None) refl refl from) (λ from link reply mac gid qp slot user most. refl)
+skip-beginning B = by-plain (λ p. begins_on B p ≡ None) (λ from link key address len. refl) (λ from link m. refl) (λ from s m o. by-side (λ y. begins_on B (Clc y s None m) ≡ None) refl refl from) (λ from link reply mac gid qp slot user most. refl)
 
 skip-offer : (x : Side) (t : ℕ) (p : Post) → is_plain p ≡ true → offer_in x t p ≡ None
-skip-offer A t = by-plain (λ p. offer_in A t p ≡ None) (λ from link key address len. refl) (λ from link m. refl) (λ from s m o. none from s m) (λ from link reply mac gid qp slot user most. refl)
-  where
-    none : (from : Side) (s : ℕ) (m : ClcMessage) → offer_in A t (Clc from s None m) ≡ None
-    none A s m = refl
-    none B s m = refl
-skip-offer B t = by-plain (λ p. offer_in B t p ≡ None) (λ from link key address len. refl) (λ from link m. refl) (λ from s m o. none from s m) (λ from link reply mac gid qp slot user most. refl)
-  where
-    none : (from : Side) (s : ℕ) (m : ClcMessage) → offer_in B t (Clc from s None m) ≡ None
-    none A s m = refl
-    none B s m = refl
+skip-offer A t = by-plain (λ p. offer_in A t p ≡ None) (λ from link key address len. refl) (λ from link m. refl) (λ from s m o. by-side (λ y. offer_in A t (Clc y s None m) ≡ None) refl refl from) (λ from link reply mac gid qp slot user most. refl)
+skip-offer B t = by-plain (λ p. offer_in B t p ≡ None) (λ from link key address len. refl) (λ from link m. refl) (λ from s m o. by-side (λ y. offer_in B t (Clc y s None m) ≡ None) refl refl from) (λ from link reply mac gid qp slot user most. refl)
 
 skip-group : (p : Post) → is_plain p ≡ true → begins_group_in p ≡ false
 skip-group = by-plain (λ p. begins_group_in p ≡ false) (λ from link key address len. refl) (λ from link m. refl) (λ from s m o. none from s m o) (λ from link reply mac gid qp slot user most. refl)
@@ -144,25 +115,13 @@ skip-group = by-plain (λ p. begins_group_in p ≡ false) (λ from link key addr
     none B s (Decline r) e = refl
 
 skip-keys : (x : Side) (table : List Known) (ks : Keys) (p : Post) → is_plain p ≡ true → by_post x table ks p ≡ ks
-skip-keys A table ks = by-plain (λ p. by_post A table ks p ≡ ks) (λ from link key address len. refl) (λ from link m. refl) (λ from s m o. none from s m) (λ from link reply mac gid qp slot user most. refl)
-  where
-    none : (from : Side) (s : ℕ) (m : ClcMessage) → by_post A table ks (Clc from s None m) ≡ ks
-    none A s m = refl
-    none B s m = refl
-skip-keys B table ks = by-plain (λ p. by_post B table ks p ≡ ks) (λ from link key address len. refl) (λ from link m. refl) (λ from s m o. none from s m) (λ from link reply mac gid qp slot user most. refl)
-  where
-    none : (from : Side) (s : ℕ) (m : ClcMessage) → by_post B table ks (Clc from s None m) ≡ ks
-    none A s m = refl
-    none B s m = refl
+skip-keys A table ks = by-plain (λ p. by_post A table ks p ≡ ks) (λ from link key address len. refl) (λ from link m. refl) (λ from s m o. by-side (λ y. by_post A table ks (Clc y s None m) ≡ ks) refl refl from) (λ from link reply mac gid qp slot user most. refl)
+skip-keys B table ks = by-plain (λ p. by_post B table ks p ≡ ks) (λ from link key address len. refl) (λ from link m. refl) (λ from s m o. by-side (λ y. by_post B table ks (Clc y s None m) ≡ ks) refl refl from) (λ from link reply mac gid qp slot user most. refl)
 
 -- words on lists that pass over them
 skip-all : {X : Type 0} (f : Post → Option X) → ((p : Post) → is_plain p ≡ true → f p ≡ None) → (ps : List Post) → ArePlain ps → filter_map f ps ≡ []
 skip-all f skips [] a = refl
 skip-all f skips (p ∷ ps) a = ap (λ o. cons_option o (filter_map f ps)) (skips p a.0) ∙ skip-all f skips ps a.1
-
-none-asked : (x : Side) (n : ℕ) → n ≡ 0 → at_side x 0 n ≡ 0
-none-asked A n e = refl
-none-asked B n e = e
 
 pub plain-pair : (x : Side) (event : Event) (reply : Reply) (ps : List Post) → ArePlain ps → first_pair x event reply ps ≡ 0
 plain-pair x event reply [] a = refl
@@ -197,6 +156,9 @@ module _ (e : Entry) (past : List Entry) (plain : ArePlain e.posts) where
 
   pub offer-stays : (x : Side) (s : ℕ) → offered x s (e ∷ past) ≡ offered x s past
   offer-stays x s = ap (λ (os : List Offered). option_or (head os) (offered x s past)) (skip-all (offer_in x s) (skip-offer x s) e.posts plain)
+
+  pub plain-route : (x : Side) (s : ℕ) → is_up x s (e ∷ past) ≡ is_up x s past → end_state x s (e ∷ past) ≡ end_state x s past → SameRoute x (e ∷ past) past s
+  plain-route x s up state = record { up = up; link = ap (λ o. option_map (λ (p : Offered). p.link) o) (offer-stays B s); heard = heard-same x (e ∷ past) past s state (offer-stays (other x) s) }
 
   module _ (x : Side) (acts : act_pair (act_in x e past) ≡ 0) where
     no-new-pair : new_pair x e past ≡ 0

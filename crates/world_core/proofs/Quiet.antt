@@ -47,17 +47,8 @@ spared size B (GroupEnd A) p e = refl
 spared size B (Up A link) p e = refl
 spared size B (Calls A call) p e = refl
 spared size B (Completes A) p e = refl
-spared size A (Fate A link phase) p e = absurd (true≢false (sym e))
-spared size A (GroupEnd A) p e = absurd (true≢false (sym e))
-spared size A (Up A link) p e = absurd (true≢false (sym e))
-spared size A (Calls A call) p e = absurd (true≢false (sym e))
-spared size A (Completes A) p e = absurd (true≢false (sym e))
-spared size B (Fate B link phase) p e = absurd (true≢false (sym e))
-spared size B (GroupEnd B) p e = absurd (true≢false (sym e))
-spared size B (Up B link) p e = absurd (true≢false (sym e))
-spared size B (Calls B call) p e = absurd (true≢false (sym e))
-spared size B (Completes B) p e = absurd (true≢false (sym e))
-spared size x (Lands y) p e = absurd (true≢false (sym e))
+spared size A _ p e = absurd (true≢false (sym e))
+spared size B _ p e = absurd (true≢false (sym e))
 
 spared-step : (t : Terms) (x : Side) (item : Item) (items : List Item) → spares x item ≡ true → half x (pipe t (item ∷ items)) ≡ half x (pipe t items)
 spared-step t x item items e =

@@ -33,7 +33,7 @@ use Rattle.world_core.proofs.Moves.{IsQuiet, shows-quiet}
 use Rattle.world_core.proofs.OpenEnds.{stays-out}
 use Rattle.world_core.proofs.EntryItems.{below, items-are, same-items, below-ups}
 use Rattle.world_core.proofs.SameManagers.{SameDesk, SameSocket}
-use Rattle.world_core.proofs.Plain.{and-false}
+use Rattle.world_core.proofs.Plain.{and-false, none-asked}
 
 -- an entry without its posts
 abbrev pub bare : Entry → Entry
@@ -77,10 +77,6 @@ no-asked event reply p e = refl
 no-pair : (x : Side) (p : Post) → is_data p ≡ true → pair_in x p ≡ 0
 no-pair A = by-data (λ p. pair_in A p ≡ 0) (λ from link key address len. refl) (λ from link m. refl)
 no-pair B = by-data (λ p. pair_in B p ≡ 0) (λ from link key address len. refl) (λ from link m. refl)
-
-none-asked : (x : Side) (n : ℕ) → n ≡ 0 → at_side x 0 n ≡ 0
-none-asked A n e = refl
-none-asked B n e = e
 
 pub data-pair : (x : Side) (event : Event) (reply : Reply) (ps : List Post) → AreData ps → first_pair x event reply ps ≡ 0
 data-pair x event reply [] a = refl

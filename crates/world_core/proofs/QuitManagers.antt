@@ -15,11 +15,11 @@ use Rattle.clc_wire.specs.declared.refusal.Refusal.{Refusal}
 use Rattle.pipe_model.specs.Words.{rmbs_of, elements_of}
 use Rattle.smc_num.specs.declared.LinkId.{LinkId}
 use Rattle.world_core.specs.Wired.{EachItem, keeps_open}
-use Rattle.std.proofs.Common.{◌≡◌, ◌∙◌, ℕ, ◌+◌, ◌<◌, ◌==◌, ◌&&◌, not, Bool, true, false, cond, if◌then◌else◌, List, [], ◌∷◌, ◌++◌, length, filter, refl, ap, sym, subst, eq-eqb, eqb-true, append-nil, map}
+use Rattle.std.proofs.Common.{◌≡◌, ◌∙◌, ℕ, ◌+◌, ◌<◌, ◌==◌, ◌&&◌, not, Bool, true, false, cond, if◌then◌else◌, List, [], ◌∷◌, ◌++◌, length, filter, refl, ap, sym, subst, eq-eqb, append-nil, map}
 use Rattle.std.specs.Prelude.{Option, Some, None, option_map, unwrap_or, slice_set}
 use Rattle.smc_num.specs.declared.Side.{Side}
 use Rattle.smc_num.specs.declared.Side.TheVariants.{A, B}
-use Rattle.smc_num.specs.Names.{other, up_to}
+use Rattle.smc_num.specs.Names.{up_to}
 use Rattle.rmb_region.specs.Regions.{Buffer}
 use Rattle.clc_wire.specs.declared.message.ClcMessage.TheVariants.{Decline as DeclineMessage}
 use Rattle.pipe_model.specs.declared.setup.Setup.{Setup}
@@ -43,16 +43,17 @@ use Rattle.world_core.specs.OneLink.{Stage, the_link}
 use Rattle.world_core.specs.Sockets.{IsWorld, on_link, IsOffer}
 use Rattle.world_core.specs.Played.{IsPlayed}
 use Rattle.world_core.specs.Agreement.{IsShaken}
-use Rattle.world_core.specs.Managers.{manager_of, desk_of, hand_of, conn_of, end_of, route_of, each_socket, lending_on, heard_on, awaits_confirm, keeps_element, HasLendings, first_on, rows_of, lending_due}
+use Rattle.world_core.specs.Managers.{manager_of, desk_of, hand_of, conn_of, end_of, route_of, each_socket, lending_on, heard_on, keeps_element, HasLendings, first_on, rows_of, lending_due}
 use Rattle.world_core.proofs.QuietEvents.{by-side, entry-of}
 use Rattle.world_core.proofs.QuietEntries.{only-deeds, same-group}
 use Rattle.world_core.proofs.Parts.{part-open}
-use Rattle.world_core.proofs.PlainPosts.{ArePlain, offer-stays, lends-none, lendings-stay, groups-stay, pairs-stay, serial-stays, first-stays}
+use Rattle.world_core.proofs.PlainPosts.{ArePlain, offer-stays, lends-none, lendings-stay, groups-stay, pairs-stay, serial-stays, first-stays, plain-route}
 use Rattle.world_core.proofs.StillEntries.{silent-pipes, end-stays, lent-stays, returns-by, still-desk, keys-stay, book-stays}
 use Rattle.world_core.proofs.SameManagers.{SameDesk, SameRoute, same-desk, same-conn, same-spare, desk_from, route_from, rows_from, hand-same, routed-conn, conn_from}
 use Rattle.world_core.proofs.KeptManagers.{by-parts, conn-at}
 use Rattle.world_core.proofs.Lendings.{lending-due}
 use Rattle.world_core.proofs.Tables.{same-sockets, set-socket, at-socket}
+use Rattle.world_core.proofs.Plain.{at-or-beside}
 
 module _ (setup : Setup) (payload : List ℕ) (regions : List Buffer) (stage : Stage) (past : List Entry) (one : setup.links ≡ 1) (rmbs : rmbs_of setup B ≡ 1) (world : IsWorld setup stage past) (lendings_are : HasLendings setup payload past) (actor n s : ℕ) (posts : List Post)
     (r : Refusal) (len : ℕ) (ob : Offer) (known : s < setup.sockets) (ours : offered B s past ≡ on_link ob) (offer_is : IsOffer setup B false ob) (state : end_state B s past ≡ WaitsConfirm) (down : is_up B s past ≡ false)
@@ -149,12 +150,7 @@ module _ (setup : Setup) (payload : List ℕ) (regions : List Buffer) (stage : S
   hand-s = ap (λ a. let h : Hand = record { raw = is_raw s past; state = a } in h) state-s ∙ ap (λ (h : Hand). let k : Hand = record h { state = HasFallen } in k) (sym (at-socket (hand_of B past) setup.sockets s no_hand known))
 
   route-by : (y : Side) (t : ℕ) → is_up y t (e ∷ past) ≡ is_up y t past → end_state y t (e ∷ past) ≡ end_state y t past → SameRoute y (e ∷ past) past t
-  route-by y t up same = record {
-    up = up;
-    link = ap (λ q. option_map (λ (p : Offered). p.link) q) (offer-stays e past plain-now B t);
-    heard = ap (λ st. if awaits_confirm st then None else option_map (λ (p : Offered). p.offer) (offered (other y) t (e ∷ past))) same
-        ∙ ap (λ q. if awaits_confirm (end_state y t past) then None else option_map (λ (p : Offered). p.offer) q) (offer-stays e past plain-now (other y) t);
-  }
+  route-by y t up same = plain-route e past plain-now y t up same
 
   end-same : (y : Side) (t : ℕ) → end_of setup payload y t (e ∷ past) ≡ end_of setup payload y t past
   end-same y t = end-stays setup payload past e (no-items actor posts) y t (ap (λ q. unwrap_or (option_map (λ (link : LinkId). link.group) (option_map (λ (p : Offered). p.link) q)) 0) (offer-stays e past plain-now B t))
@@ -207,16 +203,17 @@ module _ (setup : Setup) (payload : List ℕ) (regions : List Buffer) (stage : S
       ∙ ap (λ q. if keeps_element (end_state y t past) then option_map (λ (o : Offered). lends_by t o.link o.offer) q else None) (offer-stays e past plain-now y t)
 
   lendings-now : HasLendings setup payload (e ∷ past)
-  lendings-now = record { each = by-side (λ y. (t : ℕ) → lending_on t (lent setup payload y (e ∷ past)) ≡ lending_due y t (e ∷ past)) of_a (λ t. of_b t (t == s) refl) }
+  lendings-now = record { each = by-side (λ y. (t : ℕ) → lending_on t (lent setup payload y (e ∷ past)) ≡ lending_due y t (e ∷ past)) of_a of_b }
     where
       of_a : (t : ℕ) → lending_on t (lent setup payload A (e ∷ past)) ≡ lending_due A t (e ∷ past)
       of_a t = ap (λ (ls : List Lending). lending_on t ls) lent-a ∙ (lendings_are.each A t ∙ sym (due-by A t (state-a t)))
 
-      of_b : (t : ℕ) (b : Bool) → (t == s) ≡ b → lending_on t (lent setup payload B (e ∷ past)) ≡ lending_due B t (e ∷ past)
-      of_b t true i = subst (λ k. lending_on k (lent setup payload B (e ∷ past)) ≡ lending_due B k (e ∷ past)) (sym (eqb-true t s i))
+      of_b : (t : ℕ) → lending_on t (lent setup payload B (e ∷ past)) ≡ lending_due B t (e ∷ past)
+      of_b =
+          at-or-beside (λ k. lending_on k (lent setup payload B (e ∷ past)) ≡ lending_due B k (e ∷ past)) s
           (ap (λ (ls : List Lending). lending_on s ls) lent-b ∙ (none-left s (lent setup payload B past)
           ∙ sym (ap (λ st. if keeps_element st then option_map (λ (o : Offered). lends_by s o.link o.offer) (offered B s (e ∷ past)) else None) state-s)))
-      of_b t false d = lending-else t d ∙ (lendings_are.each B t ∙ sym (due-by B t (state-else t d)))
+          (λ t d. lending-else t d ∙ (lendings_are.each B t ∙ sym (due-by B t (state-else t d))))
 
   pub confirm-refused : (link : LinkId) → IsTakenBy setup payload regions B s (DeclineMessage r) link e past
   confirm-refused link = taken-by setup payload regions B s (DeclineMessage r) link Fell e past one known step (record { reply = refl; posts = made-posts; own = own-now }) theirs-now lendings-now

@@ -1,11 +1,11 @@
 -- The server takes the Confirm of first contact: it learns the key and the offer of its peer, and asks it to confirm the link.
 use Rattle.side_core.specs.Acting.{risen_at}
-use Rattle.std.proofs.Common.{◌≡◌, ◌∙◌, ℕ, ◌<◌, ◌==◌, Bool, true, false, if◌then◌else◌, List, [], ◌∷◌, ◌++◌, length, refl, ap, sym, subst, eq-eqb, eqb-true, append-nil, map}
+use Rattle.std.proofs.Common.{◌≡◌, ◌∙◌, ℕ, ◌<◌, ◌==◌, Bool, true, false, if◌then◌else◌, List, [], ◌∷◌, ◌++◌, length, refl, ap, sym, subst, eq-eqb, append-nil, map}
 use Rattle.std.specs.Prelude.{Option, Some, None, option_map, unwrap_or, slice_set, slice_index_or}
 use Rattle.smc_num.specs.declared.Side.{Side}
 use Rattle.smc_num.specs.declared.Side.TheVariants.{A, B}
 use Rattle.smc_num.specs.declared.LinkId.{LinkId}
-use Rattle.smc_num.specs.Names.{other, up_to, no_link}
+use Rattle.smc_num.specs.Names.{up_to, no_link}
 use Rattle.smc_num.specs.Places.{rmb_at}
 use Rattle.smc_num.specs.Keys.{Key, binds}
 use Rattle.rmb_region.specs.Regions.{Buffer}
@@ -43,14 +43,14 @@ use Rattle.world_core.specs.Managers.{manager_of, desk_of, hand_of, conn_of, end
 use Rattle.world_core.proofs.QuietEvents.{by-side, entry-of}
 use Rattle.world_core.proofs.QuietEntries.{only-deeds, same-group}
 use Rattle.world_core.proofs.Parts.{part-open}
-use Rattle.world_core.proofs.PlainPosts.{ArePlain, offer-stays, lends-none, lendings-stay, groups-stay, pairs-stay, serial-stays, first-stays}
+use Rattle.world_core.proofs.PlainPosts.{ArePlain, offer-stays, lends-none, lendings-stay, groups-stay, pairs-stay, serial-stays, first-stays, plain-route}
 use Rattle.world_core.proofs.StillEntries.{silent-pipes, end-stays, lent-stays, still-desk, keys-stay}
 use Rattle.world_core.proofs.SameManagers.{SameDesk, SameRoute, desk_from, conn_from, route_from, same-desk, same-conn, same-spare, rows_from, hand-same}
 use Rattle.world_core.proofs.KeptManagers.{by-parts}
 use Rattle.world_core.proofs.Lendings.{lendings-kept}
 use Rattle.world_core.proofs.Tables.{same-sockets, set-socket, at-socket}
 use Rattle.world_core.proofs.TakenAlone.{IsTakenBy, taken-by}
-use Rattle.world_core.proofs.Plain.{and-false}
+use Rattle.world_core.proofs.Plain.{and-false, at-or-beside}
 
 module _ (setup : Setup) (payload : List ℕ) (regions : List Buffer) (past : List Entry) (one : setup.links ≡ 1) (s : ℕ) (world : IsWorld setup (Made s) past) (lendings_are : HasLendings setup payload past) (actor n : ℕ) (posts : List Post)
     (known : s < setup.sockets) (o : Offer) (len : ℕ) (theirs_is : offered A s past ≡ on_link o) (named : named_link s past ≡ Some the_link) (first : o.first ≡ true) (state : end_state B s past ≡ WaitsConfirm) (down : is_up B s past ≡ false)
@@ -140,12 +140,7 @@ module _ (setup : Setup) (payload : List ℕ) (regions : List Buffer) (past : Li
   state-here = ap (λ b. if b then IsUp else early_state B s (e ∷ past)) (up-same B s ∙ down) ∙ (early-own s ∙ ap (λ b. if b then WaitsLink else early_state B s past) (eq-eqb s s refl))
 
   route-by : (y : Side) (t : ℕ) → end_state y t (e ∷ past) ≡ end_state y t past → SameRoute y (e ∷ past) past t
-  route-by y t same = record {
-    up = up-same y t;
-    link = ap (λ o. option_map (λ (p : Offered). p.link) o) (offer-stays e past plain-now B t);
-    heard = ap (λ st. if awaits_confirm st then None else option_map (λ (p : Offered). p.offer) (offered (other y) t (e ∷ past))) same
-        ∙ ap (λ o. if awaits_confirm (end_state y t past) then None else option_map (λ (p : Offered). p.offer) o) (offer-stays e past plain-now (other y) t);
-  }
+  route-by y t same = plain-route e past plain-now y t (up-same y t) same
 
   end-same : (y : Side) (t : ℕ) → end_of setup payload y t (e ∷ past) ≡ end_of setup payload y t past
   end-same y t = end-stays setup payload past e (no-items actor posts) y t (ap (λ o. unwrap_or (option_map (λ (link : LinkId). link.group) (option_map (λ (p : Offered). p.link) o)) 0) (offer-stays e past plain-now B t))
@@ -199,11 +194,10 @@ module _ (setup : Setup) (payload : List ℕ) (regions : List Buffer) (past : Li
       (ap (λ (ls : List Lending). length ls) (lendings-stay e past plain-now A)) (same-spare setup payload A (e ∷ past) past (lent-now A))
 
   keeps-own : (t : ℕ) → keeps_element (end_state B t (e ∷ past)) ≡ keeps_element (end_state B t past)
-  keeps-own t = by (t == s) refl
-    where
-      by : (b : Bool) → (t == s) ≡ b → keeps_element (end_state B t (e ∷ past)) ≡ keeps_element (end_state B t past)
-      by true i = subst (λ k. keeps_element (end_state B k (e ∷ past)) ≡ keeps_element (end_state B k past)) (sym (eqb-true t s i)) (ap (λ st. keeps_element st) state-here ∙ sym (ap (λ st. keeps_element st) state))
-      by false d = ap (λ st. keeps_element st) (state-else t d)
+  keeps-own =
+      at-or-beside (λ k. keeps_element (end_state B k (e ∷ past)) ≡ keeps_element (end_state B k past)) s
+      (ap (λ st. keeps_element st) state-here ∙ sym (ap (λ st. keeps_element st) state))
+      (λ t d. ap (λ st. keeps_element st) (state-else t d))
 
   pub asks-to-confirm : IsTakenBy setup payload regions B s (ConfirmMessage o) the_link e past
   asks-to-confirm =

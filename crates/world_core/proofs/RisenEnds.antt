@@ -3,7 +3,7 @@ use Rattle.side_core.specs.Desk.{goes_live}
 use Rattle.std.specs.List.{range_with_len}
 use Rattle.clc_wire.specs.declared.offer.Offer.{Offer}
 use Rattle.smc_num.specs.declared.LinkId.{LinkId}
-use Rattle.std.proofs.Common.{◌≡◌, ◌∙◌, ℕ, ◌<◌, ◌==◌, Bool, true, false, if◌then◌else◌, List, ◌∷◌, length, map, refl, ap, sym, subst, eqb-true}
+use Rattle.std.proofs.Common.{◌≡◌, ◌∙◌, ℕ, ◌<◌, ◌==◌, Bool, true, false, if◌then◌else◌, List, ◌∷◌, length, map, refl, ap, sym}
 use Rattle.std.specs.Prelude.{Option, Some, None, option_map, unwrap_or, slice_set, slice_index_or}
 use Rattle.smc_num.specs.declared.Side.{Side}
 use Rattle.smc_num.specs.declared.Side.TheVariants.{B}
@@ -32,6 +32,7 @@ use Rattle.world_core.proofs.KeptManagers.{by-parts}
 use Rattle.world_core.proofs.Tables.{same-sockets, set-socket, at-socket}
 use Rattle.world_core.proofs.Confirming.{Confirming, IsConfirming, IsWaiting}
 use Rattle.world_core.proofs.LinkManagers.{hear, rise, map-map, w, lent-now, own-desk, their-desk, own-hands, their-hands, conn-else, conn-else-before, end-risen, end-theirs, up-other, is-up-now, state-by}
+use Rattle.world_core.proofs.Plain.{at-or-beside}
 
 module _ {x : Side} {from to : Stage} {reply : Bool} (setup : Setup) (payload : List ℕ) (regions : List Buffer) (e : Entry) (past : List Entry) (c : Confirming x (first_on x past) from to reply)
     (world : IsWorld setup from past) (now : IsAtStage setup to (e ∷ past)) (i : IsConfirming payload x reply e past) (plain : ArePlain e.posts)
@@ -125,14 +126,11 @@ module _ {x : Side} {from to : Stage} {reply : Bool} (setup : Setup) (payload : 
   }
 
   conn-theirs : (s : ℕ) → conn_of setup payload (other x) (e ∷ past) s ≡ conn_of setup payload (other x) past s
-  conn-theirs s = by (s == first_on x past) refl
-    where
-      by : (b : Bool) → (s == first_on x past) ≡ b → conn_of setup payload (other x) (e ∷ past) s ≡ conn_of setup payload (other x) past s
-      by true same = subst (λ k. conn_of setup payload (other x) (e ∷ past) k ≡ conn_of setup payload (other x) past k) (sym (eqb-true s (first_on x past) same))
-          (same-conn setup payload (other x) (e ∷ past) past (first_on x past) route-theirs (lendings-stay e past plain (other x)) (lent-same (other x)) (end-theirs setup payload regions e past c world now i plain n played shaken lendings_are stays unraw))
-      by false d =
-          conn-else setup payload regions e past c world now i plain n played shaken lendings_are stays unraw (other x) s d
-          ∙ sym (conn-else-before setup payload regions e past c world now i plain n played shaken lendings_are stays unraw (other x) s d)
+  conn-theirs =
+      at-or-beside (λ k. conn_of setup payload (other x) (e ∷ past) k ≡ conn_of setup payload (other x) past k) (first_on x past)
+      (same-conn setup payload (other x) (e ∷ past) past (first_on x past) route-theirs (lendings-stay e past plain (other x)) (lent-same (other x)) (end-theirs setup payload regions e past c world now i plain n played shaken lendings_are stays unraw))
+      (λ s d. conn-else setup payload regions e past c world now i plain n played shaken lendings_are stays unraw (other x) s d
+      ∙ sym (conn-else-before setup payload regions e past c world now i plain n played shaken lendings_are stays unraw (other x) s d))
 
   pub other-stays : manager_of setup payload regions (other x) (e ∷ past) ≡ manager_of setup payload regions (other x) past
   other-stays =

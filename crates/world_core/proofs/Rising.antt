@@ -190,16 +190,7 @@ unoffered-down Unopened x e = refl
 unoffered-down Fallen x e = refl
 unoffered-down Proposed x e = refl
 unoffered-down (Refused r) x e = refl
-unoffered-down (FirstAccepted o) x e = absurd (true≢false (sym e))
-unoffered-down (FirstConfirmed o p) x e = absurd (true≢false (sym e))
-unoffered-down (AwaitsLink o p) x e = absurd (true≢false (sym e))
-unoffered-down (FirstUpAtA o p) x e = absurd (true≢false (sym e))
-unoffered-down (FirstUp o p) x e = absurd (true≢false (sym e))
-unoffered-down (Accepted o) x e = absurd (true≢false (sym e))
-unoffered-down (AcceptRefused o r) x e = absurd (true≢false (sym e))
-unoffered-down (AcceptFallen o) x e = absurd (true≢false (sym e))
-unoffered-down (Confirmed o p) x e = absurd (true≢false (sym e))
-unoffered-down (Up o p) x e = absurd (true≢false (sym e))
+unoffered-down _ x e = absurd (true≢false (sym e))
 
 either : (b : Bool) (p q r : Bool) → (if b then p else q) ≡ true → (p ≡ true → r ≡ false) → (q ≡ true → r ≡ false) → r ≡ false
 either true p q r e f g = f e

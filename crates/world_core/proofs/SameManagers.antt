@@ -1,10 +1,10 @@
 -- What a manager looks at in the past: where two histories show the same, it keeps the same, and where they show the same but
 -- for one end, just that end differs.
-use Rattle.std.proofs.Common.{◌≡◌, ◌∙◌, ℕ, Bool, List, length, map, filter, refl, ap}
+use Rattle.std.proofs.Common.{◌≡◌, ◌∙◌, ℕ, Bool, List, length, map, filter, refl, ap, if◌then◌else◌}
 use Rattle.std.specs.Prelude.{Option, Some, None, option_map, unwrap_or}
 use Rattle.smc_num.specs.declared.Side.{Side}
 use Rattle.smc_num.specs.declared.LinkId.{LinkId}
-use Rattle.smc_num.specs.Names.{at_side, no_link, up_to}
+use Rattle.smc_num.specs.Names.{at_side, no_link, up_to, other}
 use Rattle.smc_num.specs.Places.{all_places, is_free}
 use Rattle.clc_wire.specs.declared.offer.Offer.{Offer}
 use Rattle.element_ledger.specs.Lendings.{Row}
@@ -24,7 +24,8 @@ use Rattle.clc_handshake.specs.Stages.{Hand}
 use Rattle.side_core.specs.declared.route.Route.{Route}
 use Rattle.side_core.specs.Records.{Connection}
 use Rattle.side_core.specs.Desk.{Desk, most_slots}
-use Rattle.world_core.specs.Managers.{desk_of, hand_of, conn_of, end_of, rows_of, row_of, first_on, heard_on, epoch_in, lending_on}
+use Rattle.world_core.specs.Managers.{desk_of, hand_of, conn_of, end_of, rows_of, row_of, first_on, heard_on, epoch_in, lending_on, awaits_confirm}
+use Rattle.pipe_model.specs.History.{Offered, offered}
 
 -- two histories show the same of what the desk of a side looks at
 pub record SameDesk (setup : Setup) (payload : List ℕ) (x : Side) (one two : List Entry) : Type 0 where
@@ -94,6 +95,12 @@ hand-same x one two s raw state =
 
 pub same-hand : (x : Side) (one two : List Entry) (s : ℕ) → SameSocket x one two s → hand_of x one s ≡ hand_of x two s
 same-hand x one two s same = hand-same x one two s same.raw same.state
+
+-- what it heard of its peer's offer
+pub heard-same : (x : Side) (one two : List Entry) (s : ℕ) → end_state x s one ≡ end_state x s two → offered (other x) s one ≡ offered (other x) s two → heard_on x s one ≡ heard_on x s two
+heard-same x one two s state offer =
+    ap (λ st. if awaits_confirm st then None else option_map (λ (p : Offered). p.offer) (offered (other x) s one)) state
+    ∙ ap (λ q. if awaits_confirm (end_state x s two) then None else option_map (λ (p : Offered). p.offer) q) offer
 
 -- a route of these parts
 abbrev pub route_from : Option LinkId → Bool → List Lending → Option Offer → Lending → Route

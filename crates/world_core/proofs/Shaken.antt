@@ -20,6 +20,7 @@ use Rattle.world_core.proofs.DataPosts.{connections-data, unseen-filter_map, no-
 use Rattle.world_core.proofs.Landings.{not-dead}
 use Rattle.world_core.proofs.NewOffers.{NoOffers, OneOffer}
 use Rattle.world_core.proofs.Plain.{and-both, same-is, none-some}
+use Rattle.world_core.proofs.LinkFacts.{by-up}
 
 -- the one link
 latest-at : (stage : Stage) → (link_at 1 (fabric_at stage).latest ≡ None) ⊎ ((link_at 1 (fabric_at stage).latest ≡ Some the_link) × (is_made stage ≡ true))
@@ -74,37 +75,17 @@ pub is-none : (o : Offered) → Some o ≡ None → ⊥
 is-none o e = true≢false (ap (λ (q : Option Offered). is_some q) e)
 
 pub offer-answer : (k : Socket) → offered_at k B ≡ None → offered_at k A ≡ None
-offer-answer Unopened e = refl
-offer-answer Fallen e = refl
-offer-answer Proposed e = refl
-offer-answer (Refused q) e = refl
-offer-answer (FirstAccepted o) e = refl
 offer-answer (FirstConfirmed o p) e = absurd (is-none _ e)
 offer-answer (AwaitsLink o p) e = absurd (is-none _ e)
 offer-answer (FirstUpAtA o p) e = absurd (is-none _ e)
 offer-answer (FirstUp o p) e = absurd (is-none _ e)
-offer-answer (Accepted o) e = refl
-offer-answer (AcceptRefused o q) e = refl
-offer-answer (AcceptFallen o) e = refl
 offer-answer (Confirmed o p) e = absurd (is-none _ e)
 offer-answer (Up o p) e = absurd (is-none _ e)
+offer-answer _ e = refl
 
 -- an end that is up at B has an offer of A
 pub up-answered : (k : Socket) → up_at k B ≡ true → is_some (offered_at k A) ≡ true
-up-answered (FirstUp o p) e = refl
-up-answered (Up o p) e = refl
-up-answered Unopened e = absurd (true≢false (sym e))
-up-answered Fallen e = absurd (true≢false (sym e))
-up-answered Proposed e = absurd (true≢false (sym e))
-up-answered (Refused q) e = absurd (true≢false (sym e))
-up-answered (FirstAccepted o) e = absurd (true≢false (sym e))
-up-answered (FirstConfirmed o p) e = absurd (true≢false (sym e))
-up-answered (AwaitsLink o p) e = absurd (true≢false (sym e))
-up-answered (FirstUpAtA o p) e = absurd (true≢false (sym e))
-up-answered (Accepted o) e = absurd (true≢false (sym e))
-up-answered (AcceptRefused o q) e = absurd (true≢false (sym e))
-up-answered (AcceptFallen o) e = absurd (true≢false (sym e))
-up-answered (Confirmed o p) e = absurd (true≢false (sym e))
+up-answered k = by-up (λ j y. is_some (offered_at j A) ≡ true) (λ o p. refl) (λ o p y. refl) (λ o p. refl) (λ o p y. refl) k B
 
 -- what an entry offers is what handshake and flows offer with it
 module _ (setup : Setup) (payload : List ℕ) (e : Entry) (past : List Entry) (before : ℕ) (made : IsMade setup payload past before e) where

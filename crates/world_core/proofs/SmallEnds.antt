@@ -13,7 +13,7 @@ use Rattle.pipe_model.specs.declared.sent.Sent.{Sent}
 use Rattle.pipe_model.specs.Snapshot.{shows_gap}
 use Rattle.pipe_model.specs.Closing.{cause_of, is_closing, after_completing}
 use Rattle.pipe_model.specs.Ends.{Half, window, unread, is_over, strikes, validates, takes_snapshot, takes, lands, counts_completed, completes, meets_fate, posts_batch, settle, is_due, to_land, to_complete}
-use Rattle.pipe_model.specs.Calls.{Call, Writes, Reads, Finishes, Closes, Aborts, Awaits, Moves, calls, is_ended}
+use Rattle.pipe_model.specs.Calls.{Call, Writes, Reads, calls, is_ended}
 use Rattle.pipe_model.specs.Pipe.{Terms, Item, Fate, GroupEnd, Up, Calls, Lands, Completes, Pipe, half, apply, pipe}
 use Rattle.world_core.specs.Wired.{EachItem, keeps_open}
 use Rattle.world_core.proofs.Growth.{settled-half, either}
@@ -55,11 +55,7 @@ write-small size bytes h = record {
 call-small : (size : ℕ) (x : Side) (call : Call) (h : Half) → keeps_open (Calls x call) ≡ true → GrowsBy size h (calls size call h)
 call-small size x (Writes bytes) h k = either (GrowsBy size h) h (record h { out = h.out ++ take (window size h) bytes }) (is_some (cause_of h.phase) || is_ended h) (same size h h refl refl) (write-small size bytes h)
 call-small size x (Reads n) h k = either (GrowsBy size h) h (record h { rd = h.rd + min n (unread h) }) (is_some (cause_of h.phase) || is_closing h.phase) (same size h h refl refl) (same size h _ refl refl)
-call-small size x Finishes h k = absurd (true≢false (sym k))
-call-small size x Closes h k = absurd (true≢false (sym k))
-call-small size x Aborts h k = absurd (true≢false (sym k))
-call-small size x Awaits h k = absurd (true≢false (sym k))
-call-small size x Moves h k = absurd (true≢false (sym k))
+call-small size x _ h k = absurd (true≢false (sym k))
 
 applied : (size : ℕ) (x : Side) (item : Item) (p : Pipe) → keeps_open item ≡ true → GrowsBy size (half x p) (half x (apply size item p))
 applied size A (Fate A link phase) p k = fate-small size link phase p.a

@@ -16,7 +16,7 @@ use Rattle.pipe_model.specs.declared.event.Event.{Event}
 use Rattle.pipe_model.specs.Lending.{gives_up, leaves_handshake, Lending, is_over_on, lends, lends_by, returns}
 use Rattle.smc_num.specs.declared.Side.TheVariants.{A, B}
 use Rattle.pipe_model.specs.Connections.{EndState, HasFallen, WasReset, after_clc, after_event, after_loss, early_state, group_on, IsUp, end_state}
-use Rattle.world_core.specs.Sockets.{AcceptFallen, AcceptRefused, Accepted, AwaitsLink, Confirmed, Fallen, FirstAccepted, FirstConfirmed, FirstUp, FirstUpAtA, IsWorld, Proposed, Refused, Socket, Unopened, Up, early_at, HasWorld, StandsAt, on_link, opened_at, up_at}
+use Rattle.world_core.specs.Sockets.{AcceptFallen, AcceptRefused, Fallen, IsWorld, Proposed, Refused, Socket, Unopened, early_at, HasWorld, StandsAt, on_link, opened_at, up_at}
 use Rattle.std.specs.Option.{option_or}
 use Rattle.world_core.specs.Lent.{WasNeverOver}
 use Rattle.clc_wire.specs.declared.offer.Offer.{Offer}
@@ -63,27 +63,10 @@ left B s _ reply state e = cc
 -- no end is reset before it is up
 never-reset : (k : Socket) (x : Side) (cause : ResetCause) → early_at k x ≡ WasReset cause → ⊥
 never-reset Unopened x cause e = cc
-never-reset Fallen x cause e = cc
 never-reset Proposed A cause e = cc
 never-reset Proposed B cause e = cc
-never-reset (Refused r) A cause e = cc
-never-reset (Refused r) B cause e = cc
-never-reset (FirstAccepted o) A cause e = cc
-never-reset (FirstAccepted o) B cause e = cc
-never-reset (FirstConfirmed o p) A cause e = cc
-never-reset (FirstConfirmed o p) B cause e = cc
-never-reset (AwaitsLink o p) x cause e = cc
-never-reset (FirstUpAtA o p) x cause e = cc
-never-reset (FirstUp o p) x cause e = cc
-never-reset (AcceptRefused o r) A cause e = cc
-never-reset (AcceptRefused o r) B cause e = cc
-never-reset (AcceptFallen o) x cause e = cc
-never-reset (Accepted o) A cause e = cc
-never-reset (Accepted o) B cause e = cc
-never-reset (Confirmed o p) A cause e = cc
-never-reset (Confirmed o p) B cause e = cc
-never-reset (Up o p) A cause e = cc
-never-reset (Up o p) B cause e = cc
+never-reset _ A cause e = cc
+never-reset _ B cause e = cc
 
 -- an end that leaves its handshake so has fallen back
 pub leaves-falls : (setup : Setup) (from to : Stage) (e : Entry) (older : List Entry) → IsWorld setup from older → IsWorld setup to (e ∷ older) → (x : Side) (s : ℕ) → leaves_handshake x s e.event e.reply ≡ true → early_state x s (e ∷ older) ≡ HasFallen
@@ -96,27 +79,11 @@ leaves-falls setup from to e older w v x s h =
 -- an end that has fallen back is not up
 fallen-not-up : (k : Socket) (x : Side) → early_at k x ≡ HasFallen → up_at k x ≡ false
 fallen-not-up Fallen x e = refl
-fallen-not-up (Refused r) A e = cc
 fallen-not-up (Refused r) B e = refl
 fallen-not-up (AcceptRefused o r) A e = refl
-fallen-not-up (AcceptRefused o r) B e = cc
 fallen-not-up (AcceptFallen o) x e = refl
-fallen-not-up Unopened x e = cc
-fallen-not-up Proposed A e = cc
-fallen-not-up Proposed B e = cc
-fallen-not-up (FirstAccepted o) A e = cc
-fallen-not-up (FirstAccepted o) B e = cc
-fallen-not-up (FirstConfirmed o p) A e = cc
-fallen-not-up (FirstConfirmed o p) B e = cc
-fallen-not-up (AwaitsLink o p) x e = cc
-fallen-not-up (FirstUpAtA o p) x e = cc
-fallen-not-up (FirstUp o p) x e = cc
-fallen-not-up (Accepted o) A e = cc
-fallen-not-up (Accepted o) B e = cc
-fallen-not-up (Confirmed o p) A e = cc
-fallen-not-up (Confirmed o p) B e = cc
-fallen-not-up (Up o p) A e = cc
-fallen-not-up (Up o p) B e = cc
+fallen-not-up _ A e = cc
+fallen-not-up _ B e = cc
 
 fallen-opened : (k : Socket) (x : Side) → early_at k x ≡ HasFallen → opened_at k ≡ true
 fallen-opened Unopened x e = cc

@@ -53,24 +53,19 @@ heard : (setup : Setup) (k : Socket) (y : Side) → is_fallen_state (end_at k y)
 heard setup Unopened y e = refl
 heard setup Fallen y e = refl
 heard setup Proposed A e = refl
-heard setup Proposed B e = cc
-heard setup (Refused r) A e = cc
 heard setup (Refused r) B e = refl
-heard setup (FirstAccepted o) A e = cc
 heard setup (FirstAccepted o) B e = refl
 heard setup (FirstConfirmed o p) A e = refl
-heard setup (FirstConfirmed o p) B e = cc
 heard setup (AwaitsLink o p) y e = refl
 heard setup (FirstUpAtA o p) y e = refl
 heard setup (FirstUp o p) y e = refl
-heard setup (Accepted o) A e = cc
 heard setup (Accepted o) B e = refl
 heard setup (AcceptRefused o r) A e = refl
-heard setup (AcceptRefused o r) B e = cc
 heard setup (AcceptFallen o) y e = refl
 heard setup (Confirmed o p) A e = refl
-heard setup (Confirmed o p) B e = cc
 heard setup (Up o p) y e = refl
+heard setup _ A e = cc
+heard setup _ B e = cc
 
 -- at most one message waits
 few : (setup : Setup) (k : Socket) (x : Side) → drop 1 (untaken_at setup k x) ≡ []

@@ -35,7 +35,7 @@ use Rattle.side_core.specs.Records.{Connection, conn_at}
 use Rattle.side_core.specs.Manager.{Manager, hand_at, state_at, with_hand}
 use Rattle.side_core.specs.Taking.{verdict_at, verdict_posts, verdict_risen, by_verdict, takes_message, taking_posts, taking_told, quits_from}
 use Rattle.world_core.specs.OneLink.{Stage}
-use Rattle.world_core.specs.Sockets.{Socket, Unopened, Fallen, Proposed, Refused, FirstAccepted, FirstConfirmed, AwaitsLink, FirstUpAtA, FirstUp, Accepted, AcceptRefused, AcceptFallen, Confirmed, Up, up_at, end_at, offered_at, IsWorld}
+use Rattle.world_core.specs.Sockets.{Socket, Proposed, Refused, FirstAccepted, Accepted, up_at, end_at, offered_at, IsWorld}
 use Rattle.world_core.specs.Played.{IsPlayed}
 use Rattle.world_core.specs.Agreement.{IsShaken}
 use Rattle.world_core.specs.Managers.{manager_of, keeps_element, HasLendings, route_of, end_of}
@@ -98,31 +98,10 @@ pub is-early : (k : Socket) (x : Side) → waits_first (end_at k x) ≡ true →
 is-early Proposed A e = record { none = refl; down = refl; keeps = refl }
 is-early Proposed B e = record { none = refl; down = refl; keeps = refl }
 is-early (Refused r) A e = record { none = refl; down = refl; keeps = refl }
-is-early (Refused r) B e = absurd (true≢false (sym e))
 is-early (FirstAccepted o) A e = record { none = refl; down = refl; keeps = refl }
-is-early (FirstAccepted o) B e = absurd (true≢false (sym e))
 is-early (Accepted o) A e = record { none = refl; down = refl; keeps = refl }
-is-early (Accepted o) B e = absurd (true≢false (sym e))
-is-early Unopened A e = absurd (true≢false (sym e))
-is-early Unopened B e = absurd (true≢false (sym e))
-is-early Fallen A e = absurd (true≢false (sym e))
-is-early Fallen B e = absurd (true≢false (sym e))
-is-early (FirstConfirmed o p) A e = absurd (true≢false (sym e))
-is-early (FirstConfirmed o p) B e = absurd (true≢false (sym e))
-is-early (AwaitsLink o p) A e = absurd (true≢false (sym e))
-is-early (AwaitsLink o p) B e = absurd (true≢false (sym e))
-is-early (FirstUpAtA o p) A e = absurd (true≢false (sym e))
-is-early (FirstUpAtA o p) B e = absurd (true≢false (sym e))
-is-early (FirstUp o p) A e = absurd (true≢false (sym e))
-is-early (FirstUp o p) B e = absurd (true≢false (sym e))
-is-early (AcceptRefused o r) A e = absurd (true≢false (sym e))
-is-early (AcceptRefused o r) B e = absurd (true≢false (sym e))
-is-early (AcceptFallen o) A e = absurd (true≢false (sym e))
-is-early (AcceptFallen o) B e = absurd (true≢false (sym e))
-is-early (Confirmed o p) A e = absurd (true≢false (sym e))
-is-early (Confirmed o p) B e = absurd (true≢false (sym e))
-is-early (Up o p) A e = absurd (true≢false (sym e))
-is-early (Up o p) B e = absurd (true≢false (sym e))
+is-early _ A e = absurd (true≢false (sym e))
+is-early _ B e = absurd (true≢false (sym e))
 
 module _ (setup : Setup) (payload : List ℕ) (regions : List Buffer) (stage : Stage) (past : List Entry) (one : setup.links ≡ 1) (world : IsWorld setup stage past) (lendings_are : HasLendings setup payload past) (actor n s : ℕ) (posts : List Post) (known : s < setup.sockets) where
   no-conn : (x : Side) → waits_first (end_state x s past) ≡ true → conn_at s (manager_of setup payload regions x past).records ≡ None

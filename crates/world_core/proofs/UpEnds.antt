@@ -162,13 +162,8 @@ stepped t B item p e = keeps-both p.b (apply t.size item p).b (settle t.depth (a
 risen : (size : ℕ) (x : Side) (item : Item) (p : Pipe) → raises x item ≡ true → (half x (apply size item p)).up ≡ true
 risen size A (Up A link) p e = refl
 risen size B (Up B link) p e = refl
-risen size A (Up B link) p e = cc
-risen size B (Up A link) p e = cc
-risen size x (Fate y link phase) p e = cc
-risen size x (GroupEnd y) p e = cc
-risen size x (Calls y call) p e = cc
-risen size x (Lands y) p e = cc
-risen size x (Completes y) p e = cc
+risen size A _ p e = cc
+risen size B _ p e = cc
 
 pub apply-up : (size : ℕ) (x : Side) (item : Item) (p : Pipe) → (half x (apply size item p)).up ≡ (raises x item || (half x p).up)
 apply-up size x item p = by_test (raises x item) refl
