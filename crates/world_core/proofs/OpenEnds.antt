@@ -13,7 +13,7 @@ use Rattle.pipe_model.specs.Snapshot.{is_last}
 use Rattle.pipe_model.specs.declared.sent.Sent.{Sent}
 use Rattle.pipe_model.specs.Closing.{cause_of, is_closing, after_posting, after_completing}
 use Rattle.pipe_model.specs.Ends.{Half, fresh, settle, is_due, is_over, meets_fate, takes, takes_snapshot, validates, strikes, completes, counts_completed, batch, present, posts_batch, window, unread, to_land, to_complete, lands, comes_up}
-use Rattle.pipe_model.specs.Calls.{Call, Writes, Reads, Finishes, Closes, Aborts, Awaits, Moves, calls, is_ended}
+use Rattle.pipe_model.specs.Calls.{Call, Writes, Reads, calls, is_ended}
 use Rattle.pipe_model.specs.Pipe.{Pipe, Terms, Item, Fate, GroupEnd, Up, Calls, Lands, Completes, half, pipe, apply}
 use Rattle.pipe_model.specs.Parts.{EachOf}
 use Rattle.world_core.specs.Wired.{IsOpenSnapshot, IsOpenSent, IsOpenEnd, EachShot, EachItem, keeps_open}
@@ -79,11 +79,7 @@ call-open size (Writes bytes) h o k = either h (record h { out = h.out ++ take (
     (record { phase = o.phase; finished = o.finished; fin = o.fin; last = o.last; taken = o.taken; flight = o.flight; sent = o.sent })
 call-open size (Reads n) h o k = either h (record h { rd = h.rd + min n (unread h) }) (is_some (cause_of h.phase) || is_closing h.phase) o
     (record { phase = o.phase; finished = o.finished; fin = o.fin; last = o.last; taken = o.taken; flight = o.flight; sent = o.sent })
-call-open size Finishes h o k = absurd (true≢false (sym k))
-call-open size Closes h o k = absurd (true≢false (sym k))
-call-open size Aborts h o k = absurd (true≢false (sym k))
-call-open size Awaits h o k = absurd (true≢false (sym k))
-call-open size Moves h o k = absurd (true≢false (sym k))
+call-open size _ h o k = absurd (true≢false (sym k))
 
 fate-open : (link : LinkId) (phase : LinkPhase) (h : Half) → IsOpenEnd h → IsOpenEnd (meets_fate link phase h)
 fate-open link Unused h o = record { phase = o.phase; finished = o.finished; fin = o.fin; last = o.last; taken = o.taken; flight = o.flight; sent = o.sent }

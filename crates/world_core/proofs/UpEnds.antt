@@ -62,32 +62,24 @@ settles depth h = record {
     by_up true = refl
     by_up false = refl
 
+abbrev moved-on : Half → Half
+moved-on h = record h {
+  link = lowest_link h;
+  last = h.fin;
+  flight = [];
+  phase = after_moving h.phase;
+  sent = h.sent ++ check h ∷ [];
+  landed = length h.sent;
+  completed = length h.sent;
+}
+
 moving : (h : Half) → KeepsUp h (moves h)
 moving h = record {
   up = by_up (is_due_for_move h);
-  sent = λ e. ap (λ (b : Bool). (if b then moved else h).sent) (not-due h.up h.stands (not (has_link h.link h.live) && may_move h.phase) e);
+  sent = λ e. ap (λ (b : Bool). (if b then moved-on h else h).sent) (not-due h.up h.stands (not (has_link h.link h.live) && may_move h.phase) e);
 }
   where
-    moved : Half
-    moved = record h {
-      link = lowest_link h;
-      last = h.fin;
-      flight = [];
-      phase = after_moving h.phase;
-      sent = h.sent ++ check h ∷ [];
-      landed = length h.sent;
-      completed = length h.sent;
-    }
-
-    by_up : (b : Bool) → (if b then record h {
-      link = lowest_link h;
-      last = h.fin;
-      flight = [];
-      phase = after_moving h.phase;
-      sent = h.sent ++ check h ∷ [];
-      landed = length h.sent;
-      completed = length h.sent;
-    } else h).up ≡ h.up
+    by_up : (b : Bool) → (if b then moved-on h else h).up ≡ h.up
     by_up true = refl
     by_up false = refl
 

@@ -178,55 +178,41 @@ module _ (setup : Setup) (one : IsOneLink setup) (payload : List ℕ) (e : Entry
             let go : GoesOn e past = gives.goes_on in
             subst (λ (k : Offered). TellsPlainly x k.offer.token v (Then x s)) (some-is r o (sym (go.kept (other x) s r g) ∙ f)) (tells s r g)
 
+    -- a wire with other posts keeps its places and reports
+    with-other : (ws ls : List Carried) → map placed ws ≡ unlanded the_link x (e ∷ past) → map placed ls ≡ uncompleted the_link x (e ∷ past) → Tells (record w { waiting = ws; landed = ls })
+        → IsWireAfter setup payload x (e ∷ past) (record w { waiting = ws; landed = ls })
+    with-other ws ls waiting landed tells = record {
+      places = wire.places;
+      waiting = waiting;
+      landed = landed;
+      uncut = wire.uncut;
+      unreported_a = wire.unreported_a;
+      unreported_b = wire.unreported_b;
+      plain = tells-all (record w { waiting = ws; landed = ls }) waiting landed tells;
+    }
+
     -- the wire with what was posted, by what left it
     after-none : Moving x e past w → IsWireAfter setup payload x (e ∷ past) (with_posts cs (moved x e.event w))
     after-none (Moves_none s m) =
-        let waiting = stays-waiting the_link x e past cs are w wire.waiting wire.landed s in
-        let landed = stays-landed the_link x e past cs are w wire.waiting wire.landed s in
-        subst (λ v. IsWireAfter setup payload x (e ∷ past) (with_posts cs v)) (sym m) (record {
-          places = wire.places;
-          waiting = waiting;
-          landed = landed;
-          uncut = wire.uncut;
-          unreported_a = wire.unreported_a;
-          unreported_b = wire.unreported_b;
-          plain = tells-all (with_posts cs w) waiting landed
-              (λ i o f. tells-stays the_link x o.offer.token e past (Now x i) (Then x i) (marked x i) cs (plain i o f) w (wire.plain i o f) s (goes x i o f));
-        })
+        subst (λ v. IsWireAfter setup payload x (e ∷ past) (with_posts cs v)) (sym m)
+        (with-other (w.waiting ++ cs) w.landed (stays-waiting the_link x e past cs are w wire.waiting wire.landed s) (stays-landed the_link x e past cs are w wire.waiting wire.landed s)
+        (λ i o f. tells-stays the_link x o.offer.token e past (Now x i) (Then x i) (marked x i) cs (plain i o f) w (wire.plain i o f) s (goes x i o f)))
     after-none (Moves_landed l m) =
         let f = front-waits the_link x e past cs are w wire.waiting wire.landed l in
         let v : Queues = record w { waiting = drop 1 w.waiting; landed = landed_with f.c w.landed } in
-        let waiting = lands-waiting the_link x e past cs are w wire.waiting wire.landed l in
-        let landed = lands-landed the_link x e past cs are w wire.waiting wire.landed l in
         let is : with_landed (head w.waiting) w ≡ v = ap (λ ds. with_landed (head ds) w) f.is in
-        subst (λ u. IsWireAfter setup payload x (e ∷ past) (with_posts cs u)) (sym (m ∙ is)) (record {
-          places = wire.places;
-          waiting = waiting;
-          landed = landed;
-          uncut = wire.uncut;
-          unreported_a = wire.unreported_a;
-          unreported_b = wire.unreported_b;
-          plain = tells-all (with_posts cs v) waiting landed
-              (λ i o g. subst (λ ds. TellsPlainly x o.offer.token (record w { waiting = ds ++ cs; landed = landed_with f.c w.landed }) (Then x i)) (sym (ap (λ ds. drop 1 ds) f.is))
-              (tells-lands the_link x o.offer.token e past (Now x i) (Then x i) (marked x i) cs (plain i o g) w (wire.plain i o g) f.c f.others f.is wire.waiting l (goes x i o g)));
-        })
+        subst (λ u. IsWireAfter setup payload x (e ∷ past) (with_posts cs u)) (sym (m ∙ is))
+        (with-other (drop 1 w.waiting ++ cs) (landed_with f.c w.landed) (lands-waiting the_link x e past cs are w wire.waiting wire.landed l) (lands-landed the_link x e past cs are w wire.waiting wire.landed l)
+        (λ i o g. subst (λ ds. TellsPlainly x o.offer.token (record w { waiting = ds ++ cs; landed = landed_with f.c w.landed }) (Then x i)) (sym (ap (λ ds. drop 1 ds) f.is))
+        (tells-lands the_link x o.offer.token e past (Now x i) (Then x i) (marked x i) cs (plain i o g) w (wire.plain i o g) f.c f.others f.is wire.waiting l (goes x i o g))))
     after-none (Moves_completed l m) =
         let f = front-landed the_link x e past cs are w wire.waiting wire.landed l in
         let v : Queues = record w { landed = drop 1 w.landed } in
-        let waiting = completes-waiting the_link x e past cs are w wire.waiting wire.landed l in
-        let landed = completes-landed the_link x e past cs are w wire.waiting wire.landed l in
         let is : with_completed (head w.landed) w ≡ v = ap (λ ds. with_completed (head ds) w) f.is in
-        subst (λ u. IsWireAfter setup payload x (e ∷ past) (with_posts cs u)) (sym (m ∙ is)) (record {
-          places = wire.places;
-          waiting = waiting;
-          landed = landed;
-          uncut = wire.uncut;
-          unreported_a = wire.unreported_a;
-          unreported_b = wire.unreported_b;
-          plain = tells-all (with_posts cs v) waiting landed
-              (λ i o g. subst (λ ds. TellsPlainly x o.offer.token (record w { waiting = w.waiting ++ cs; landed = ds }) (Then x i)) (sym (ap (λ ds. drop 1 ds) f.is))
-              (tells-completes the_link x o.offer.token e past (Now x i) (Then x i) (marked x i) cs (plain i o g) w (wire.plain i o g) f.c f.others f.is wire.landed l (goes x i o g)));
-        })
+        subst (λ u. IsWireAfter setup payload x (e ∷ past) (with_posts cs u)) (sym (m ∙ is))
+        (with-other (w.waiting ++ cs) (drop 1 w.landed) (completes-waiting the_link x e past cs are w wire.waiting wire.landed l) (completes-landed the_link x e past cs are w wire.waiting wire.landed l)
+        (λ i o g. subst (λ ds. TellsPlainly x o.offer.token (record w { waiting = w.waiting ++ cs; landed = ds }) (Then x i)) (sym (ap (λ ds. drop 1 ds) f.is))
+        (tells-completes the_link x o.offer.token e past (Now x i) (Then x i) (marked x i) cs (plain i o g) w (wire.plain i o g) f.c f.others f.is wire.landed l (goes x i o g))))
 
     -- a wire with the posts of an entry
     pub wire-with : IsWireAfter setup payload x (e ∷ past) (with_posts cs (moved x e.event w))
