@@ -2,20 +2,19 @@
 use Rattle.std.proofs.Common.{◌≡◌, ◌∙◌, ℕ, ◌+◌, ◌≤◌, min, true, if◌then◌else◌, List, [], ◌∷◌, ◌++◌, length, take, drop, refl, ap, sym, subst, ◌||◌, append_assoc, append-nil, arith}
 use Rattle.std.specs.Prelude.{Option, Some, None, is_some}
 use Rattle.smc_num.specs.declared.Side.{Side}
-use Rattle.smc_num.specs.declared.Side.TheVariants.{A, B}
 use Rattle.smc_num.specs.declared.LinkId.{LinkId}
 use Rattle.smc_num.specs.declared.LinkPhase.{LinkPhase}
 use Rattle.smc_num.specs.declared.LinkPhase.TheVariants.{Unused, Pending, Live, Dead}
-use Rattle.smc_num.specs.Names.{head}
 use Rattle.smc_num.specs.Numbers.{wire_number}
 use Rattle.pipe_model.specs.declared.reply.ResetCause.TheVariants.{PeerAbort, Gap}
 use Rattle.pipe_model.specs.declared.sent.Sent.{Sent}
 use Rattle.pipe_model.specs.Snapshot.{shows_gap}
 use Rattle.pipe_model.specs.Closing.{cause_of, is_closing, after_completing, after_finish, after_close, after_moving}
-use Rattle.pipe_model.specs.Ends.{Half, settle, is_due, is_over, is_due_for_move, lowest_link, check, meets_fate, takes, takes_snapshot, validates, strikes, completes, counts_completed, posts_batch, window, unread, to_land, to_complete}
+use Rattle.pipe_model.specs.Ends.{Half, settle, is_due, is_over, is_due_for_move, lowest_link, check, meets_fate, takes, takes_snapshot, validates, strikes, completes, counts_completed, posts_batch, window, unread}
 use Rattle.pipe_model.specs.Calls.{Call, Writes, Reads, Finishes, Closes, Aborts, Awaits, Moves, calls, is_ended}
-use Rattle.pipe_model.specs.Pipe.{Pipe, Terms, Item, Fate, GroupEnd, Up, Calls, Lands, Completes, half, pipe, apply, step}
+use Rattle.pipe_model.specs.Pipe.{Pipe, Terms, Item, half, pipe, apply, step}
 use Rattle.world_core.proofs.Growth.{either, settled-half}
+use Rattle.world_core.proofs.Halves.{at-half}
 
 -- that an end has, after another moment, accepted and read no less
 abbrev pub Grows : Half → Half → Type 0
@@ -56,30 +55,16 @@ call-grows size Awaits h = no-more h
 call-grows size Moves h = either (Grows h) (record h { link = lowest_link h; last = h.fin; flight = []; phase = after_moving h.phase; sent = h.sent ++ check h ∷ []; landed = length h.sent; completed = length h.sent }) h (is_due_for_move h) (no-more h) (no-more h)
 
 applied : (size : ℕ) (x : Side) (item : Item) (p : Pipe) → Grows (half x p) (half x (apply size item p))
-applied size A (Fate A link phase) p = fate-still link phase p.a
-applied size A (Fate B link phase) p = no-more p.a
-applied size B (Fate A link phase) p = no-more p.b
-applied size B (Fate B link phase) p = fate-still link phase p.b
-applied size A (GroupEnd A) p = no-more p.a
-applied size A (GroupEnd B) p = no-more p.a
-applied size B (GroupEnd A) p = no-more p.b
-applied size B (GroupEnd B) p = no-more p.b
-applied size A (Up A link) p = no-more p.a
-applied size A (Up B link) p = no-more p.a
-applied size B (Up A link) p = no-more p.b
-applied size B (Up B link) p = no-more p.b
-applied size A (Calls A call) p = call-grows size call p.a
-applied size A (Calls B call) p = no-more p.a
-applied size B (Calls A call) p = no-more p.b
-applied size B (Calls B call) p = call-grows size call p.b
-applied size A (Lands A) p = no-more p.a
-applied size A (Lands B) p = takes-still (head (to_land p.b)) p.a
-applied size B (Lands A) p = takes-still (head (to_land p.a)) p.b
-applied size B (Lands B) p = no-more p.b
-applied size A (Completes A) p = completes-still (head (to_complete p.a)) p.a
-applied size A (Completes B) p = no-more p.a
-applied size B (Completes A) p = no-more p.b
-applied size B (Completes B) p = completes-still (head (to_complete p.b)) p.b
+applied size = at-half size (λ x item h k. Grows h k) (record {
+  fate = λ x link phase h. fate-still link phase h;
+  gone = λ x h. no-more h;
+  up = λ x link h. no-more h;
+  call = λ x call h. call-grows size call h;
+  land = λ x h. no-more h;
+  take = λ x m h. takes-still m h;
+  complete = λ x m h. completes-still m h;
+  rest = λ x item h. no-more h;
+})
 
 settle-grows : (depth : ℕ) (h k : Half) → Grows h k → Grows h (settle depth k)
 settle-grows depth h k g = either (Grows h) (posts_batch k) k (is_due depth k) g g

@@ -1,5 +1,5 @@
 -- What an item does to the messages of an end: they grow at their end, and at most one of them lands or completes.
-use Rattle.std.proofs.Common.{◌≡◌, ◌∙◌, ℕ, ◌+◌, ◌<◌, min, max, Bool, true, false, if◌then◌else◌, [], ◌∷◌, ◌++◌, length, take, drop, refl, ap, sym, subst, ◌||◌, true≢false, append_assoc, append-nil, arith}
+use Rattle.std.proofs.Common.{◌≡◌, ◌∙◌, ℕ, ◌+◌, ◌<◌, min, max, Bool, true, false, if◌then◌else◌, [], ◌∷◌, ◌++◌, length, take, drop, refl, ap, sym, subst, ◌||◌, true≢false, append_assoc, append-nil, arith, not}
 use Rattle.std.specs.Prelude.{Option, Some, None, is_some}
 use Rattle.std.proofs.Math.Seq.{drop-append_seam}
 use Rattle.smc_num.specs.declared.Side.{Side}
@@ -13,10 +13,12 @@ use Rattle.pipe_model.specs.declared.reply.ResetCause.TheVariants.{PeerAbort, Ga
 use Rattle.pipe_model.specs.declared.sent.Sent.{Sent}
 use Rattle.pipe_model.specs.Snapshot.{shows_gap}
 use Rattle.pipe_model.specs.Closing.{cause_of, is_closing, after_completing}
-use Rattle.pipe_model.specs.Ends.{Half, settle, is_due, is_over, meets_fate, takes, takes_snapshot, validates, strikes, completes, counts_completed, batch, posts_batch, window, unread, to_land, to_complete, lands}
+use Rattle.pipe_model.specs.Ends.{Half, settle, is_due, is_over, meets_fate, takes, takes_snapshot, validates, strikes, completes, counts_completed, batch, posts_batch, window, unread, to_complete, lands}
 use Rattle.pipe_model.specs.Calls.{Call, Writes, Reads, calls, is_ended}
-use Rattle.pipe_model.specs.Pipe.{Pipe, Terms, Item, Fate, GroupEnd, Up, Calls, Lands, Completes, half, apply, step, sent_since}
+use Rattle.pipe_model.specs.Pipe.{Pipe, Terms, Item, Calls, Lands, Completes, half, apply, step, sent_since}
 use Rattle.world_core.specs.Wired.{HasGone, passes_by}
+use Rattle.world_core.proofs.Halves.{at-half}
+use Rattle.world_core.proofs.Plain.{same-self}
 
 -- whichever of two
 pub either : (P : Half → Type 0) (h1 h2 : Half) (b : Bool) → P h1 → P h2 → P (if b then h1 else h2)
@@ -70,30 +72,16 @@ call-kept size (Reads n) h k = either (KeepsSent h) h (record h { rd = h.rd + mi
 call-kept size _ h k = absurd (true≢false (sym k))
 
 kept : (size : ℕ) (x : Side) (item : Item) (p : Pipe) → passes_by x item ≡ true → KeepsSent (half x p) (half x (apply size item p))
-kept size A (Fate A link phase) p k = fate-kept link phase p.a
-kept size A (Fate B link phase) p k = (refl, refl, refl)
-kept size B (Fate A link phase) p k = (refl, refl, refl)
-kept size B (Fate B link phase) p k = fate-kept link phase p.b
-kept size A (GroupEnd A) p k = (refl, refl, refl)
-kept size A (GroupEnd B) p k = (refl, refl, refl)
-kept size B (GroupEnd A) p k = (refl, refl, refl)
-kept size B (GroupEnd B) p k = (refl, refl, refl)
-kept size A (Up A link) p k = (refl, refl, refl)
-kept size A (Up B link) p k = (refl, refl, refl)
-kept size B (Up A link) p k = (refl, refl, refl)
-kept size B (Up B link) p k = (refl, refl, refl)
-kept size A (Calls A call) p k = call-kept size call p.a k
-kept size A (Calls B call) p k = (refl, refl, refl)
-kept size B (Calls A call) p k = (refl, refl, refl)
-kept size B (Calls B call) p k = call-kept size call p.b k
-kept size A (Lands A) p k = absurd (true≢false (sym k))
-kept size A (Lands B) p k = takes-kept (head (to_land p.b)) p.a
-kept size B (Lands A) p k = takes-kept (head (to_land p.a)) p.b
-kept size B (Lands B) p k = absurd (true≢false (sym k))
-kept size A (Completes A) p k = absurd (true≢false (sym k))
-kept size A (Completes B) p k = (refl, refl, refl)
-kept size B (Completes A) p k = (refl, refl, refl)
-kept size B (Completes B) p k = absurd (true≢false (sym k))
+kept size = at-half size (λ x item h k. passes_by x item ≡ true → KeepsSent h k) (record {
+  fate = λ x link phase h o. fate-kept link phase h;
+  gone = λ x h o. (refl, refl, refl);
+  up = λ x link h o. (refl, refl, refl);
+  call = λ x call h o. call-kept size call h o;
+  land = λ x h o. absurd (true≢false (sym o ∙ ap (λ b. not b) (same-self x)));
+  take = λ x m h o. takes-kept m h;
+  complete = λ x m h o. absurd (true≢false (sym o ∙ ap (λ b. not b) (same-self x)));
+  rest = λ x item h o. (refl, refl, refl);
+})
 
 pub settled-half : (t : Terms) (x : Side) (item : Item) (p : Pipe) → half x (step t item p) ≡ settle t.depth (half x (apply t.size item p))
 settled-half t A item p = refl

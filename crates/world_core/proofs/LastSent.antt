@@ -6,18 +6,18 @@ use Rattle.smc_num.specs.declared.Side.TheVariants.{A, B}
 use Rattle.smc_num.specs.declared.LinkId.{LinkId}
 use Rattle.smc_num.specs.declared.LinkPhase.{LinkPhase}
 use Rattle.smc_num.specs.declared.LinkPhase.TheVariants.{Unused, Pending, Live, Dead}
-use Rattle.smc_num.specs.Names.{head}
 use Rattle.smc_num.specs.Numbers.{wire_number}
 use Rattle.pipe_model.specs.declared.snapshot.Snapshot.{Snapshot}
 use Rattle.pipe_model.specs.declared.reply.ResetCause.TheVariants.{PeerAbort, Gap}
 use Rattle.pipe_model.specs.declared.sent.Sent.{Sent}
 use Rattle.pipe_model.specs.Snapshot.{shows_gap}
 use Rattle.pipe_model.specs.Closing.{cause_of, is_closing, after_completing}
-use Rattle.pipe_model.specs.Ends.{Half, settle, is_due, is_over, meets_fate, takes, takes_snapshot, validates, strikes, completes, counts_completed, batch, posts_batch, window, unread, to_land, to_complete}
+use Rattle.pipe_model.specs.Ends.{Half, settle, is_due, is_over, meets_fate, takes, takes_snapshot, validates, strikes, completes, counts_completed, batch, posts_batch, window, unread}
 use Rattle.pipe_model.specs.Calls.{Call, Writes, Reads, calls, is_ended}
-use Rattle.pipe_model.specs.Pipe.{Pipe, Terms, Item, Fate, GroupEnd, Up, Calls, Lands, Completes, half, apply, pipe}
+use Rattle.pipe_model.specs.Pipe.{Pipe, Terms, Item, Calls, half, apply, pipe}
 use Rattle.world_core.specs.Wired.{EachItem, keeps_open}
 use Rattle.world_core.proofs.Growth.{either, settled-half}
+use Rattle.world_core.proofs.Halves.{at-half}
 
 -- the last of some messages
 abbrev last_in : List Sent → Option Sent
@@ -77,30 +77,16 @@ call-keeps size (Reads n) h k = either (Keeps h) h (record h { rd = h.rd + min n
 call-keeps size _ h k = absurd (true≢false (sym k))
 
 kept : (size : ℕ) (x : Side) (item : Item) (p : Pipe) → keeps_open item ≡ true → Keeps (half x p) (half x (apply size item p))
-kept size A (Fate A link phase) p k = fate-keeps link phase p.a
-kept size A (Fate B link phase) p k = (refl, refl)
-kept size B (Fate A link phase) p k = (refl, refl)
-kept size B (Fate B link phase) p k = fate-keeps link phase p.b
-kept size A (GroupEnd A) p k = (refl, refl)
-kept size A (GroupEnd B) p k = (refl, refl)
-kept size B (GroupEnd A) p k = (refl, refl)
-kept size B (GroupEnd B) p k = (refl, refl)
-kept size A (Up A link) p k = (refl, refl)
-kept size A (Up B link) p k = (refl, refl)
-kept size B (Up A link) p k = (refl, refl)
-kept size B (Up B link) p k = (refl, refl)
-kept size A (Calls A call) p k = call-keeps size call p.a k
-kept size A (Calls B call) p k = (refl, refl)
-kept size B (Calls A call) p k = (refl, refl)
-kept size B (Calls B call) p k = call-keeps size call p.b k
-kept size A (Lands A) p k = (refl, refl)
-kept size A (Lands B) p k = takes-keeps (head (to_land p.b)) p.a
-kept size B (Lands A) p k = takes-keeps (head (to_land p.a)) p.b
-kept size B (Lands B) p k = (refl, refl)
-kept size A (Completes A) p k = completes-keeps (head (to_complete p.a)) p.a
-kept size A (Completes B) p k = (refl, refl)
-kept size B (Completes A) p k = (refl, refl)
-kept size B (Completes B) p k = completes-keeps (head (to_complete p.b)) p.b
+kept size = at-half size (λ x item h k. keeps_open item ≡ true → Keeps h k) (record {
+  fate = λ x link phase h o. fate-keeps link phase h;
+  gone = λ x h o. (refl, refl);
+  up = λ x link h o. (refl, refl);
+  call = λ x call h o. call-keeps size call h o;
+  land = λ x h o. (refl, refl);
+  take = λ x m h o. takes-keeps m h;
+  complete = λ x m h o. completes-keeps m h;
+  rest = λ x item h o. (refl, refl);
+})
 
 shows-first : (t : Terms) (x : Side) → ShowsLast (half x (pipe t []))
 shows-first t A = tt

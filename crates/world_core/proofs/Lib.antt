@@ -53,6 +53,7 @@ pub mod Growth
 pub mod Handshaken
 pub mod Handshakes
 pub mod Heads
+pub mod Halves
 pub mod HomeLandings
 pub mod HostsAfter
 pub mod HostsOn

@@ -4,7 +4,7 @@ use Rattle.std.specs.Prelude.{Option, Some, None, option_map, option_to_list}
 use Rattle.smc_num.specs.declared.Side.{Side}
 use Rattle.smc_num.specs.declared.Side.TheVariants.{A, B}
 use Rattle.smc_num.specs.declared.LinkId.{LinkId}
-use Rattle.smc_num.specs.Names.{head, same_side}
+use Rattle.smc_num.specs.Names.{same_side}
 use Rattle.pipe_model.specs.declared.setup.Setup.{Setup}
 use Rattle.pipe_model.specs.declared.event.Event.{Event}
 use Rattle.pipe_model.specs.declared.event.End.{End}
@@ -13,7 +13,7 @@ use Rattle.pipe_model.specs.declared.reply.Reply.{Reply}
 use Rattle.pipe_model.specs.declared.post.PostRef.{PostRef}
 use Rattle.pipe_model.specs.declared.entry.Entry.{Entry}
 use Rattle.pipe_model.specs.Words.{passes}
-use Rattle.pipe_model.specs.Ends.{Half, to_land, to_complete}
+use Rattle.pipe_model.specs.Ends.{Half}
 use Rattle.pipe_model.specs.Calls.{Call, Writes, Reads}
 use Rattle.pipe_model.specs.Pipe.{Pipe, Terms, Item, Fate, GroupEnd, Up, Calls, Lands, Completes, half, pipe, apply}
 use Rattle.pipe_model.specs.Connections.{is_up, call_on, is_own, if_own, deeds, items, part, landed_at, completed_at}
@@ -25,6 +25,7 @@ use Rattle.world_core.proofs.Idle.{same-fate, same-call, same-takes, same-comple
 use Rattle.world_core.proofs.EntryItems.{items-are, below, below-calm, is_fate_or_up}
 use Rattle.world_core.proofs.UpEnds.{pipe-is-up, news-up, raised}
 use Rattle.world_core.proofs.Quiet.{all-spared, landing-quiet, again-quiet, new-quiet, one-more, IsCallUp, AreCallsUp}
+use Rattle.world_core.proofs.Halves.{at-half}
 
 -- what an entry makes a connection do is one thing at most
 pub data DeedsAre (ds : List Item) : Type 0 where
@@ -70,27 +71,16 @@ rests x (Completes y) = not (same_side x y)
 rests x _ = true
 
 pub apply-sent : (size : ℕ) (x : Side) (item : Item) (p : Pipe) → keeps_open item ≡ true → (half x (apply size item p)).sent ≡ (half x p).sent
-apply-sent size A (Fate A link phase) p k = let s = same-fate link phase p.a in s.2
-apply-sent size A (Fate B link phase) p k = refl
-apply-sent size B (Fate A link phase) p k = refl
-apply-sent size B (Fate B link phase) p k = let s = same-fate link phase p.b in s.2
-apply-sent size x (GroupEnd y) p k = absurd (true≢false (sym k))
-apply-sent size A (Up A link) p k = refl
-apply-sent size A (Up B link) p k = refl
-apply-sent size B (Up A link) p k = refl
-apply-sent size B (Up B link) p k = refl
-apply-sent size A (Calls A call) p k = let s = same-call size call p.a k in s.2
-apply-sent size A (Calls B call) p k = refl
-apply-sent size B (Calls A call) p k = refl
-apply-sent size B (Calls B call) p k = let s = same-call size call p.b k in s.2
-apply-sent size A (Lands A) p k = refl
-apply-sent size A (Lands B) p k = let s = same-takes (head (to_land p.b)) p.a in s.2
-apply-sent size B (Lands A) p k = let s = same-takes (head (to_land p.a)) p.b in s.2
-apply-sent size B (Lands B) p k = refl
-apply-sent size A (Completes A) p k = let s = same-completes (head (to_complete p.a)) p.a in s.2
-apply-sent size A (Completes B) p k = refl
-apply-sent size B (Completes A) p k = refl
-apply-sent size B (Completes B) p k = let s = same-completes (head (to_complete p.b)) p.b in s.2
+apply-sent size = at-half size (λ x item h k. keeps_open item ≡ true → k.sent ≡ h.sent) (record {
+  fate = λ x link phase h o. let s = same-fate link phase h in s.2;
+  gone = λ x h o. absurd (true≢false (sym o));
+  up = λ x link h o. refl;
+  call = λ x call h o. let s = same-call size call h o in s.2;
+  land = λ x h o. refl;
+  take = λ x m h o. let s = same-takes m h in s.2;
+  complete = λ x m h o. let s = same-completes m h in s.2;
+  rest = λ x item h o. refl;
+})
 
 module _ (t : Terms) (x : Side) (items : List Item) where
   abbrev Before : Half

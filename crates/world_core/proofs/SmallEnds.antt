@@ -7,16 +7,16 @@ use Rattle.smc_num.specs.declared.LinkId.{LinkId}
 use Rattle.smc_num.specs.declared.LinkPhase.{LinkPhase}
 use Rattle.smc_num.specs.declared.LinkPhase.TheVariants.{Unused, Pending, Live, Dead}
 use Rattle.smc_num.specs.Numbers.{wire_number}
-use Rattle.smc_num.specs.Names.{head}
 use Rattle.pipe_model.specs.declared.reply.ResetCause.TheVariants.{PeerAbort, Gap}
 use Rattle.pipe_model.specs.declared.sent.Sent.{Sent}
 use Rattle.pipe_model.specs.Snapshot.{shows_gap}
 use Rattle.pipe_model.specs.Closing.{cause_of, is_closing, after_completing}
-use Rattle.pipe_model.specs.Ends.{Half, window, unread, is_over, strikes, validates, takes_snapshot, takes, lands, counts_completed, completes, meets_fate, posts_batch, settle, is_due, to_land, to_complete}
+use Rattle.pipe_model.specs.Ends.{Half, window, unread, is_over, strikes, validates, takes_snapshot, takes, lands, counts_completed, completes, meets_fate, posts_batch, settle, is_due, comes_up}
 use Rattle.pipe_model.specs.Calls.{Call, Writes, Reads, calls, is_ended}
-use Rattle.pipe_model.specs.Pipe.{Terms, Item, Fate, GroupEnd, Up, Calls, Lands, Completes, Pipe, half, apply, pipe}
+use Rattle.pipe_model.specs.Pipe.{Terms, Item, Calls, Pipe, half, apply, pipe}
 use Rattle.world_core.specs.Wired.{EachItem, keeps_open}
 use Rattle.world_core.proofs.Growth.{settled-half, either}
+use Rattle.world_core.proofs.Halves.{at-half}
 
 -- that an end has posted nothing more, and has accepted an element's bytes more at most
 record GrowsBy (size : ℕ) (h k : Half) : Type 0 where
@@ -58,27 +58,16 @@ call-small size x (Reads n) h k = either (GrowsBy size h) h (record h { rd = h.r
 call-small size x _ h k = absurd (true≢false (sym k))
 
 applied : (size : ℕ) (x : Side) (item : Item) (p : Pipe) → keeps_open item ≡ true → GrowsBy size (half x p) (half x (apply size item p))
-applied size A (Fate A link phase) p k = fate-small size link phase p.a
-applied size A (Fate B link phase) p k = same size p.a p.a refl refl
-applied size B (Fate A link phase) p k = same size p.b p.b refl refl
-applied size B (Fate B link phase) p k = fate-small size link phase p.b
-applied size x (GroupEnd y) p k = absurd (true≢false (sym k))
-applied size A (Up A link) p k = same size p.a _ refl refl
-applied size A (Up B link) p k = same size p.a p.a refl refl
-applied size B (Up A link) p k = same size p.b p.b refl refl
-applied size B (Up B link) p k = same size p.b _ refl refl
-applied size A (Calls A call) p k = call-small size A call p.a k
-applied size A (Calls B call) p k = same size p.a p.a refl refl
-applied size B (Calls A call) p k = same size p.b p.b refl refl
-applied size B (Calls B call) p k = call-small size B call p.b k
-applied size A (Lands A) p k = same size p.a (lands p.a) refl refl
-applied size A (Lands B) p k = takes-small size (head (to_land p.b)) p.a
-applied size B (Lands A) p k = takes-small size (head (to_land p.a)) p.b
-applied size B (Lands B) p k = same size p.b (lands p.b) refl refl
-applied size A (Completes A) p k = completes-small size (head (to_complete p.a)) p.a
-applied size A (Completes B) p k = same size p.a p.a refl refl
-applied size B (Completes A) p k = same size p.b p.b refl refl
-applied size B (Completes B) p k = completes-small size (head (to_complete p.b)) p.b
+applied size = at-half size (λ x item h k. keeps_open item ≡ true → GrowsBy size h k) (record {
+  fate = λ x link phase h o. fate-small size link phase h;
+  gone = λ x h o. absurd (true≢false (sym o));
+  up = λ x link h o. same size h (comes_up link h) refl refl;
+  call = λ x call h o. call-small size x call h o;
+  land = λ x h o. same size h (lands h) refl refl;
+  take = λ x m h o. takes-small size m h;
+  complete = λ x m h o. completes-small size m h;
+  rest = λ x item h o. same size h h refl refl;
+})
 
 -- that an end has posted so many snapshots at most, and accepted so many bytes
 pub record IsWithin (number out : ℕ) (h : Half) : Type 0 where

@@ -9,7 +9,7 @@ use Rattle.pipe_model.specs.declared.event.Event.TheVariants.{Write, Read, Finis
 use Rattle.pipe_model.specs.declared.reply.ResetCause.TheVariants.{PeerAbort, Gap}
 use Rattle.pipe_model.specs.declared.sent.Sent.{Sent as Message}
 use Rattle.pipe_model.specs.Pipe.{Terms, Item, Fate, GroupEnd, Up, Calls, Lands, Completes, Pipe, half, apply, step, pipe, posts_of}
-use Rattle.pipe_model.specs.Ends.{Half, window, unread, is_due, posts_batch, settle, meets_fate, takes, takes_snapshot, validates, strikes, completes, counts_completed, moves, is_due_for_move, lowest_link, check, to_land, to_complete, is_over}
+use Rattle.pipe_model.specs.Ends.{Half, window, unread, is_due, posts_batch, settle, meets_fate, takes, takes_snapshot, validates, strikes, completes, counts_completed, moves, is_due_for_move, lowest_link, check, is_over}
 use Rattle.pipe_model.specs.Calls.{Call, Writes, Reads, Finishes, Closes, Aborts, Awaits, Moves, calls}
 use Rattle.pipe_model.specs.Connections.{is_up, items, part, comes_up as comes_up_with, ups, fates, group_end, deeds, is_own, landed_at, completed_at, group_on}
 use Rattle.smc_num.specs.declared.Side.{Side}
@@ -19,7 +19,7 @@ use Rattle.pipe_model.specs.Closing.{after_close, after_completing, after_finish
 use Rattle.smc_num.specs.Numbers.{wire_number}
 use Rattle.smc_num.specs.declared.LinkPhase.{LinkPhase}
 use Rattle.pipe_model.specs.Snapshot.{shows_gap}
-use Rattle.smc_num.specs.Names.{has_link, head, same_side, other}
+use Rattle.smc_num.specs.Names.{has_link, same_side, other}
 use Rattle.pipe_model.specs.History.{offered}
 use Rattle.pipe_model.specs.Words.{element_size, passes}
 use Rattle.pipe_model.specs.declared.entry.Entry.{Entry}
@@ -31,6 +31,8 @@ use Rattle.pipe_model.specs.Fabric.{loses_group_with}
 use Rattle.pipe_model.specs.declared.event.Event.{Event}
 use Rattle.world_core.specs.Wired.{EachItem}
 use Rattle.world_core.proofs.EntryItems.{fates-no-up, is_no_up}
+use Rattle.world_core.proofs.Halves.{at-half}
+use Rattle.world_core.proofs.Plain.{same-self}
 
 -- an end that is as up as another, and has sent the same where it is not
 pub record KeepsUp (h k : Half) : Type 0 where
@@ -121,30 +123,16 @@ raised x is = list_any (raises x) is
 
 -- an item that is not keeps it
 applied : (size : ℕ) (x : Side) (item : Item) (p : Pipe) → raises x item ≡ false → KeepsUp (half x p) (half x (apply size item p))
-applied size A (Fate A link phase) p e = fated link phase p.a
-applied size A (Fate B link phase) p e = keeps-it p.a
-applied size B (Fate A link phase) p e = keeps-it p.b
-applied size B (Fate B link phase) p e = fated link phase p.b
-applied size A (GroupEnd A) p e = record { up = refl; sent = λ f. refl }
-applied size A (GroupEnd B) p e = keeps-it p.a
-applied size B (GroupEnd A) p e = keeps-it p.b
-applied size B (GroupEnd B) p e = record { up = refl; sent = λ f. refl }
-applied size A (Up A link) p e = cc
-applied size A (Up B link) p e = keeps-it p.a
-applied size B (Up A link) p e = keeps-it p.b
-applied size B (Up B link) p e = cc
-applied size A (Calls A call) p e = called size call p.a
-applied size A (Calls B call) p e = keeps-it p.a
-applied size B (Calls A call) p e = keeps-it p.b
-applied size B (Calls B call) p e = called size call p.b
-applied size A (Lands A) p e = record { up = refl; sent = λ f. refl }
-applied size A (Lands B) p e = taken-by (head (to_land p.b)) p.a
-applied size B (Lands A) p e = taken-by (head (to_land p.a)) p.b
-applied size B (Lands B) p e = record { up = refl; sent = λ f. refl }
-applied size A (Completes A) p e = completed-by (head (to_complete p.a)) p.a
-applied size A (Completes B) p e = keeps-it p.a
-applied size B (Completes A) p e = keeps-it p.b
-applied size B (Completes B) p e = completed-by (head (to_complete p.b)) p.b
+applied size = at-half size (λ x item h k. raises x item ≡ false → KeepsUp h k) (record {
+  fate = λ x link phase h e. fated link phase h;
+  gone = λ x h e. record { up = refl; sent = λ f. refl };
+  up = λ x link h e. absurd (true≢false (sym (same-self x) ∙ e));
+  call = λ x call h e. called size call h;
+  land = λ x h e. record { up = refl; sent = λ f. refl };
+  take = λ x m h e. taken-by m h;
+  complete = λ x m h e. completed-by m h;
+  rest = λ x item h e. keeps-it h;
+})
 
 stepped : (t : Terms) (x : Side) (item : Item) (p : Pipe) → raises x item ≡ false → KeepsUp (half x p) (half x (step t item p))
 stepped t A item p e = keeps-both p.a (apply t.size item p).a (settle t.depth (apply t.size item p).a) (applied t.size A item p e) (settles t.depth (apply t.size item p).a)
