@@ -1,14 +1,16 @@
 -- The two hosts stand for a history whichever of them is named first.
-use Rattle.std.specs.Prelude.{◌≡◌, List}
+use Rattle.std.specs.Prelude.{◌≡◌, List, ℕ}
 use Rattle.std.proofs.Common.{subst, sym}
 use Rattle.smc_num.specs.declared.Side.{Side}
 use Rattle.smc_num.specs.declared.Side.TheVariants.{A, B}
+use Rattle.pipe_model.specs.declared.setup.Setup.{Setup}
+use Rattle.pipe_model.specs.declared.entry.Entry.{Entry}
 use Rattle.pipe_model.specs.declared.event.Event.{Event}
 use Rattle.pipe_model.specs.declared.reply.Reply.{Reply}
 use Rattle.pipe_model.specs.declared.post.Post.{Post}
 use Rattle.world_core.specs.declared.host.Host.{Host}
 use Rattle.world_core.specs.declared.moment.Moment.{Moment}
-use Rattle.world_core.specs.Hosts.{IsPlayedBy}
+use Rattle.world_core.specs.Hosts.{AreHostsAfter, IsPlayedBy}
 
 pub turned : (setup : Setup) (payload : List ℕ) (past : List Entry) (heard : ℕ) (a b : Host) → AreHostsAfter setup payload past heard A a b → AreHostsAfter setup payload past heard B b a
 turned setup payload past heard a b h = record { set = h.set; few = h.few; played = h.played; own = h.theirs; theirs = h.own }
