@@ -50,7 +50,6 @@ use Rattle.world_core.proofs.ClcTaken.{link_of}
 use Rattle.side_core.specs.declared.route.Route.{Route}
 use Rattle.pipe_model.specs.Words.{passes}
 use Rattle.pipe_model.specs.Ends.{Half}
-use Rattle.pipe_model.specs.Messages.{serial}
 use Rattle.world_core.proofs.LinkManagers.{stage-desk}
 use Rattle.world_core.proofs.Lendings.{lending-due, no-lending-due}
 use Rattle.pipe_model.specs.declared.reply.Reply.TheVariants.{Sent, Established}

@@ -1,6 +1,6 @@
 -- The part of a connection in a played history: no close is in it, its establishments are on the one link, and an end is up only where its
 -- peer has offered.
-use Rattle.std.proofs.Common.{◌≡◌, ◌∙◌, ℕ, true, false, List, [], ◌∷◌, refl, ap, sym, ◌||◌, true≢false}
+use Rattle.std.proofs.Common.{◌≡◌, ◌∙◌, ℕ, false, List, [], ◌∷◌, refl, ap, sym, ◌||◌, true≢false}
 use Rattle.std.specs.Prelude.{Option, Some, None, is_some}
 use Rattle.smc_num.specs.declared.Side.{Side}
 use Rattle.smc_num.specs.declared.LinkId.{LinkId}
@@ -8,7 +8,7 @@ use Rattle.smc_num.specs.Names.{other}
 use Rattle.pipe_model.specs.declared.setup.Setup.{Setup}
 use Rattle.pipe_model.specs.declared.entry.Entry.{Entry}
 use Rattle.pipe_model.specs.History.{Offered, offered}
-use Rattle.pipe_model.specs.Connections.{comes_up, ups, is_up, items, part}
+use Rattle.pipe_model.specs.Connections.{comes_up, is_up, items, part}
 use Rattle.world_core.specs.Played.{IsPlayed}
 use Rattle.world_core.specs.OneLink.{the_link}
 use Rattle.world_core.specs.Wired.{EachItem, EachUpOn, keeps_open}

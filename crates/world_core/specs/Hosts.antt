@@ -14,7 +14,6 @@ use Rattle.pipe_model.specs.Wires.{unlanded, uncompleted}
 use Rattle.pipe_model.specs.Ends.{Half, to_land}
 use Rattle.pipe_model.specs.Pipe.{half}
 use Rattle.pipe_model.specs.Lending.{pipe_of}
-use Rattle.pipe_model.specs.Connections.{items}
 use Rattle.pipe_model.specs.Fallback.{stream, untaken}
 use Rattle.rc_link.specs.declared.Carried.{Carried}
 use Rattle.rc_link.specs.Wire.{Queues, unlanded as waiting_on, uncompleted as landed_on}
