@@ -22,6 +22,7 @@ use Rattle.world_core.proofs.UpEnds.{pipe-is-up}
 use Rattle.world_core.proofs.Agreed.{strange-step, carried-step, can-step}
 use Rattle.world_core.proofs.Plain.{some-is, none-some}
 
+-- an end that has sent nothing has nothing under way
 pub nothing-left : (n : ℕ) (ms : List Sent) → ms ≡ [] → drop n ms ≡ []
 nothing-left zero ms e = ap (λ ns. drop 0 ns) e
 nothing-left (suc n) ms e = ap (λ ns. drop (suc n) ns) e

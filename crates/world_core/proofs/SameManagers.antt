@@ -96,7 +96,7 @@ hand-same x one two s raw state =
 pub same-hand : (x : Side) (one two : List Entry) (s : ℕ) → SameSocket x one two s → hand_of x one s ≡ hand_of x two s
 same-hand x one two s same = hand-same x one two s same.raw same.state
 
--- what it heard of its peer's offer
+-- what an end has heard is its peer's offer, as long as it may have heard it
 pub heard-same : (x : Side) (one two : List Entry) (s : ℕ) → end_state x s one ≡ end_state x s two → offered (other x) s one ≡ offered (other x) s two → heard_on x s one ≡ heard_on x s two
 heard-same x one two s state offer =
     ap (λ st. if awaits_confirm st then None else option_map (λ (p : Offered). p.offer) (offered (other x) s one)) state
