@@ -1,9 +1,8 @@
 -- The wires of both sides are asked in turn.
-use Rattle.std.proofs.Common.{◌≡◌, ◌∙◌, Bool, Option, Some, None, true, false, sym, subst, length}
+use Rattle.std.proofs.Common.{◌≡◌, ◌∙◌, Some, None, sym, subst, length}
 use Rattle.std.specs.List.{find, flat_map}
 use Rattle.smc_num.specs.Names.{up_to}
 use Rattle.smc_num.specs.declared.Side.TheVariants.{A, B}
-use Rattle.pipe_model.specs.declared.event.Event.{Event}
 use Rattle.pipe_model.specs.declared.event.Event.TheVariants.{Deliver, Complete}
 use Rattle.world_core.specs.Steps.{Seen, does_something, past, slot_events, told_by}
 use Rattle.world_core.proofs.HostsSwapped.{turned}
