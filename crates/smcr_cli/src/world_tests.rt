@@ -74,8 +74,7 @@ const CROSSING: [(Event, Reply); 10] = [
 #[test]
 fn two_bytes_cross(rt: HostRuntime) -> Result<(), Fail> {
     let payload = vec![in rt.alloc(); 104, 105]?;
-    let Ok(mut world) = World::new(rt.alloc(), &Setup::default(), payload, Room::default())
-    else {
+    let Ok(mut world) = World::new(rt.alloc(), &Setup::default(), payload, Room::default()) else {
         return Err(Fail::new("no world"));
     };
     assert_eq!(rt; world.next(), None);
