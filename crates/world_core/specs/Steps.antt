@@ -50,7 +50,7 @@ entry_of setup payload before heard actor event = record {
   posts = posted setup payload before heard event;
 }
 
--- that the second world is the first one after an event of an actor, and its newest entry a lawful step
+-- that the entry of an actor's event is a lawful step after the first world, with the bytes that the second has handed out
 abbrev pub IsLawfulStep : ℕ → Event → Seen → Seen → Type 0
 IsLawfulStep actor event old new =
     IsStep old.setup old.payload (past old) old.heard (entry_of old.setup old.payload (past old) (length old.heard) actor event) new.heard
