@@ -7,6 +7,8 @@ mod KeyIsAskedAgain
 mod RawClientIsAccepted
 mod FaultyBytesStay
 mod LawfulSteps
+mod Declines
+mod KeptCauses
 pub mod Chains
 pub mod Facts
 pub mod Items

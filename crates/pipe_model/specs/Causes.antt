@@ -1,31 +1,36 @@
--- Why a connection is reset.
--- A reader learns here each cause that an end may keep, and what the history shows for it.
-use Rattle.std.specs.Prelude.{◌≡◌, ◌⊎◌, ℕ, ◌%◌, ◌==◌, ◌&&◌, nat_lt, Bool, false, List, [], ◌∷◌, Option, Some, None, IsTrue}
+-- Why a connection is reset, and why one is declined.
+-- A reader learns here each cause that an end may keep, each lack that may be named, and what the history shows for it.
+use Rattle.std.specs.Prelude.{◌≡◌, ◌≢◌, ◌⊎◌, ℕ, ◌*◌, ◌%◌, ◌==◌, ◌&&◌, nat_lt, Bool, true, false, List, [], ◌∷◌, Option, Some, None, IsTrue}
 use Rattle.smc_num.specs.declared.Side.{Side}
-use Rattle.smc_num.specs.declared.Side.TheVariants.{A}
+use Rattle.smc_num.specs.declared.Side.TheVariants.{A, B}
 use Rattle.smc_num.specs.Names.{other, same_side}
 use Rattle.smc_num.specs.Numbers.{wire_number}
+use Rattle.clc_wire.specs.declared.proposal.Proposal.{Proposal}
+use Rattle.clc_wire.specs.declared.offer.Offer.{Offer}
 use Rattle.clc_wire.specs.declared.message.ClcMessage.{ClcMessage}
+use Rattle.clc_wire.specs.declared.message.ClcMessage.TheVariants.{Proposal as ProposalMessage, Accept as AcceptMessage}
 use Rattle.cdc_wire.specs.declared.CdcMessage.{CdcMessage}
 use Rattle.pipe_model.specs.declared.reply.ResetCause.{ResetCause}
 use Rattle.pipe_model.specs.declared.reply.ResetCause.TheVariants.{OwnAbort, PeerAbort, NoLiveLink, Gap, BadClc, BadStep}
+use Rattle.pipe_model.specs.declared.reply.Lack.{Lack}
+use Rattle.pipe_model.specs.declared.reply.Lack.TheVariants.{NotCapable, NoSubnet, NoServerElement, NoClientElement, NoSlot, GroupLost, Raw}
 use Rattle.pipe_model.specs.declared.event.Event.{Event}
-use Rattle.pipe_model.specs.declared.event.Event.TheVariants.{Abort, Deliver}
+use Rattle.pipe_model.specs.declared.event.Event.TheVariants.{Open, Clc, Abort, Deliver}
 use Rattle.pipe_model.specs.declared.reply.Reply.{Reply}
-use Rattle.pipe_model.specs.declared.reply.Reply.TheVariants.{Done, Landed}
+use Rattle.pipe_model.specs.declared.reply.Reply.TheVariants.{Done, Landed, Declined}
 use Rattle.pipe_model.specs.declared.post.Post.{Post}
 use Rattle.pipe_model.specs.declared.post.Post.TheVariants.{Cdc}
 use Rattle.pipe_model.specs.declared.setup.Setup.{Setup}
 use Rattle.pipe_model.specs.declared.entry.Entry.{Entry}
-use Rattle.pipe_model.specs.Words.{passes}
+use Rattle.pipe_model.specs.Words.{passes, subnet_of, is_capable, rmbs_of, elements_of}
 use Rattle.pipe_model.specs.Snapshot.{is_validation, shows_gap}
 use Rattle.pipe_model.specs.Pipe.{half}
 use Rattle.pipe_model.specs.Closing.{cause_of}
 use Rattle.pipe_model.specs.History.{post_at}
-use Rattle.pipe_model.specs.Fabric.{has_ended}
+use Rattle.pipe_model.specs.Fabric.{has_ended, group_of}
 use Rattle.pipe_model.specs.Connections.{EndState, WasReset, IsUp, HasFallen, end_state, group_on, token_of}
-use Rattle.pipe_model.specs.Lending.{pipe_of}
-use Rattle.pipe_model.specs.Handshake.{kind_of}
+use Rattle.pipe_model.specs.Lending.{pipe_of, free_places}
+use Rattle.pipe_model.specs.Handshake.{kind_of, slots_up}
 use Rattle.pipe_model.specs.Fallback.{Front, Faulty, Whole, front, is_raw, is_fallen, fallen_phase}
 
 -- that something held at an entry, over what was before it
@@ -101,3 +106,50 @@ kept_cause setup payload x s past = kept_in setup payload x s past (end_state x 
 -- an end is reset only for a cause that the history shows
 abbrev pub CausesAreShown : Setup → List ℕ → List Entry → Type 0
 CausesAreShown setup payload past = (x : Side) (s : ℕ) (cause : ResetCause) → kept_cause setup payload x s past ≡ Some cause → IsShown setup payload x s past cause
+
+-- the subnet of the Proposal that stands at the front of a socket's stream is not that of B
+pub record IsElsewhere (setup : Setup) (payload : List ℕ) (s : ℕ) (past : List Entry) : Type 0 where
+  pub proposal : Proposal
+  pub len : ℕ
+  pub stands : front payload A s past ≡ Whole (ProposalMessage proposal) len
+  pub elsewhere : (proposal.subnet, proposal.prefix) ≢ subnet_of setup B
+
+-- the group that the Accept of later contact at the front of a socket's stream names is not the one that A has, 0 for none
+pub record IsOfOtherGroup (payload : List ℕ) (s named has : ℕ) (past : List Entry) : Type 0 where
+  pub offer : Offer
+  pub len : ℕ
+  pub stands : front payload B s past ≡ Whole (AcceptMessage offer) len
+  pub later : offer.first ≡ false
+  pub named_is : named ≡ offer.psn
+  pub has_is : has ≡ group_of A past
+  pub others : named ≢ has
+
+-- what a lack says that is named in answer to an event. To an open: not both sides are capable. By B as it takes a message of A: the
+-- Proposal's subnet is another, or none of so many elements is free; or B has no group, and then none of so many slots has its path up, or
+-- the client is raw. By A as it takes a message of B: none of its elements is free, or the Accept's group is not A's. No other is named
+abbrev pub IsLacking : Setup → List ℕ → Event → List Entry → Lack → Type 0
+IsLacking setup payload (Open s) past (NotCapable a b) = (a ≡ is_capable setup A) × ((b ≡ is_capable setup B) × ((a && b) ≡ false))
+IsLacking setup payload (Clc s A) past NoSubnet = IsElsewhere setup payload s past
+IsLacking setup payload (Clc s A) past (NoServerElement n) = (free_places setup payload B past ≡ []) × (n ≡ rmbs_of setup B * elements_of setup B)
+IsLacking setup payload (Clc s A) past (NoSlot n) = (group_of B past ≡ 0) × ((slots_up setup past ≡ []) × (n ≡ setup.links))
+IsLacking setup payload (Clc s A) past Raw = (group_of B past ≡ 0) × IsTrue (is_raw s past)
+IsLacking setup payload (Clc s B) past (NoClientElement n) = (free_places setup payload A past ≡ []) × (n ≡ rmbs_of setup A * elements_of setup A)
+IsLacking setup payload (Clc s B) past (GroupLost named stands) = IsOfOtherGroup payload s named stands past
+IsLacking setup payload event past lack = ⊥
+
+-- what is declined is declined for a lack that holds before the entry
+abbrev pub DeclinesForLack : Setup → List ℕ → Event → Reply → List Entry → Type 0
+DeclinesForLack setup payload event (Declined lack) past = IsLacking setup payload event past lack
+DeclinesForLack setup payload event _ past = Unit {0}
+
+-- whether nothing more becomes of an end: it is up, has fallen back or was reset
+abbrev pub is_settled : EndState → Bool
+is_settled IsUp = true
+is_settled HasFallen = true
+is_settled (WasReset cause) = true
+is_settled _ = false
+
+-- with an entry nothing more becomes of the ends of a socket that are up, have fallen back or were reset, and their group stays
+pub record StaySettled (s : ℕ) (e : Entry) (past : List Entry) : Type 0 where
+  pub ends : (x : Side) → is_settled (end_state x s past) ≡ true → end_state x s (e ∷ past) ≡ end_state x s past
+  pub group : (x : Side) → end_state x s past ≡ IsUp → group_on s (e ∷ past) ≡ group_on s past

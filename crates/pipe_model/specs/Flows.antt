@@ -168,9 +168,9 @@ after_answer _ landed f = f
 -- the flows after that step; a request that the step makes goes on the link of slot `carrier`
 abbrev pub flow_after : FlowStep → LlcMessage → ℕ → ℕ → Flow → Flow
 flow_after (Live reply first) m landed carrier f = record f { link = NoFlow }
-flow_after SendKeys m landed carrier f = record f { link = KeysSent (flow_slot f.link) carrier }
+flow_after SendKeys m landed carrier f = record f { link = KeysSent (named_slot m landed) carrier }
 flow_after Over m landed carrier f = record f { link = NoFlow }
-flow_after AskLink m landed carrier f = record f { link = LinkSent (flow_slot f.link) }
+flow_after AskLink m landed carrier f = record f { link = LinkSent (named_slot m landed) }
 flow_after (ReplyAdd again) m landed carrier f = record f { link = AddSeen (named_slot m landed) }
 flow_after Confirmed m landed carrier f = record f { key = Free }
 flow_after Retry m landed carrier f = record f { key = RetryWaits }

@@ -19,7 +19,7 @@ use Rattle.pipe_model.specs.declared.verdict.ClcStep.{ClcStep}
 use Rattle.pipe_model.specs.declared.verdict.ClcStep.TheVariants.{SendAccept, SendConfirm, AskKey, Wait, Decline, Fell, Ready, Lost, Wrong}
 use Rattle.pipe_model.specs.declared.setup.Setup.{Setup}
 use Rattle.pipe_model.specs.declared.entry.Entry.{Entry}
-use Rattle.pipe_model.specs.Words.{rmbs_of, elements_of, passes}
+use Rattle.pipe_model.specs.Words.{subnet_of, rmbs_of, elements_of, passes}
 use Rattle.pipe_model.specs.Flows.{is_first_contact, is_adding, is_asked, is_deleting}
 use Rattle.pipe_model.specs.Fabric.{path_up, group_of, flow_of}
 use Rattle.pipe_model.specs.Connections.{EndState, WaitsProposal, WaitsAnswer, WaitsConfirm}
@@ -91,7 +91,7 @@ is_ready free confirmed = passes (λ p. has p.rmb confirmed) (head free)
 -- the facts at a side after a history
 abbrev pub lacks : Setup → List ℕ → Side → List Entry → Lacks
 lacks setup payload x past = let free : List Place = free_places setup payload x past in record {
-  subnet = at_side x (slice_index_or setup.subnet 0 (0, 0)) (slice_index_or setup.subnet 1 (0, 0));
+  subnet = subnet_of setup x;
   free = length free;
   elements = rmbs_of setup x * elements_of setup x;
   rmb_ready = is_ready free (keys_of x past).confirmed;

@@ -1,6 +1,7 @@
 -- Where a remote write must land: inside one element that is lent to its connection.
 -- A reader learns here how a write is told whose it is, and what "home" asks of its key, its address and its length.
-use Rattle.std.specs.Prelude.{◌≡◌, ◌≤◌, ℕ, ◌+◌, ◌-◌, ◌*◌, ◌%◌, List, [], ◌∷◌, drop, filter_map, Contains, Option, Some, None, IfSome, option_and_then}
+use Rattle.std.specs.Prelude.{◌≡◌, ◌≤◌, ℕ, ◌+◌, ◌-◌, ◌*◌, ◌%◌, List, [], ◌∷◌, drop, filter_map, Contains, Option, Some, None, option_and_then}
+use Rattle.std.specs.Option.{IsSomeAnd}
 use Rattle.smc_num.specs.declared.Side.{Side}
 use Rattle.smc_num.specs.declared.LinkId.{LinkId}
 use Rattle.smc_num.specs.Names.{other, head}
@@ -40,12 +41,12 @@ pub record IsHome (setup : Setup) (payload : List ℕ) (y : Side) (link : LinkId
   pub from_start : element_start (element_size setup) lending.place ≤ address
   pub to_end : address + len ≤ element_start (element_size setup) lending.place + element_size setup
 
--- what must hold of a post that lands
+-- what must hold of a post that lands: behind a write stands a CDC message, and the write is home for the connection that this names
 abbrev pub PostIsHome : Setup → List ℕ → PostRef → List Entry → Post → Type 0
-PostIsHome setup payload at past (Write from link key address len) = IfSome (following_cdc at past) (λ m. IsHome setup payload (other from) link key address len m.token past)
+PostIsHome setup payload at past (Write from link key address len) = IsSomeAnd (following_cdc at past) (λ m. IsHome setup payload (other from) link key address len m.token past)
 PostIsHome setup payload at past _ = Unit {0}
 
--- each write that lands is home
+-- what lands was posted, and each write that lands is home
 abbrev pub LandsHome : Setup → List ℕ → Event → Reply → List Entry → Type 0
-LandsHome setup payload (Deliver slot dir) (Landed at) past = IfSome (post_at at past) (PostIsHome setup payload at past)
+LandsHome setup payload (Deliver slot dir) (Landed at) past = IsSomeAnd (post_at at past) (PostIsHome setup payload at past)
 LandsHome setup payload _ _ past = Unit {0}

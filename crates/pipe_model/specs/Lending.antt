@@ -134,5 +134,5 @@ abbrev pub IsRelent : Side → Lending → List Entry → Type 0
 IsRelent x new past = All (λ l. IsTrue (is_done_with x l past)) (filter (λ l. same_place new.place l.place) (lendings x past))
 
 -- the law of the lendings that an entry begins
-abbrev pub IsLent : Side → Entry → List Entry → Type 0
-IsLent x e past = All (λ l. IsRelent x l past) (filter_map (lends x) e.posts)
+abbrev pub RelendsOnlyDone : Side → Entry → List Entry → Type 0
+RelendsOnlyDone x e past = All (λ l. IsRelent x l past) (filter_map (lends x) e.posts)

@@ -24,7 +24,7 @@ use Rattle.pipe_model.specs.declared.post.Post.{Post}
 use Rattle.pipe_model.specs.declared.post.Post.TheVariants.{Write, Cdc, Llc, Clc}
 use Rattle.pipe_model.specs.declared.setup.Setup.{Setup}
 use Rattle.pipe_model.specs.declared.entry.Entry.{Entry}
-use Rattle.pipe_model.specs.Words.{element_size}
+use Rattle.pipe_model.specs.Words.{element_size, rmbs_of}
 use Rattle.pipe_model.specs.Snapshot.{spelled, validation}
 use Rattle.pipe_model.specs.History.{next_number, Offered, offered}
 use Rattle.pipe_model.specs.Ends.{Sent}
@@ -178,8 +178,8 @@ last_delete x [] = None
 last_delete x (e ∷ older) = option_or (head (filter_map (delete_request x) e.posts)) (last_delete x older)
 
 -- the RMBs that it named
-abbrev pub deleting_rmbs : Side → List Entry → List ℕ
-deleting_rmbs x past = filter (λ rmb. has rmb (flat_map (λ m. named_rmbs (deleted m) (keys_of x past).keys) (option_to_list (last_delete x past)))) (up_to 2)
+abbrev pub deleting_rmbs : Setup → Side → List Entry → List ℕ
+deleting_rmbs setup x past = filter (λ rmb. has rmb (flat_map (λ m. named_rmbs (deleted m) (keys_of x past).keys) (option_to_list (last_delete x past)))) (up_to (rmbs_of setup x))
 
 -- the key request and the ADD LINK request that are posted again after a loss
 abbrev pub key_again : Side → Peer → List Key → List ℕ → KeyPhase → Post
@@ -197,16 +197,16 @@ abbrev pub drop_posts : Side → ℕ → Bool → Peer → List Post
 drop_posts x k own p = if own && not (is_dropping k p.flow) then Llc x (link_or_none (lowest_live p.table) p.table) (delete_link k) ∷ [] else []
 
 -- what a side posts as it reports the link of a slot, `p` being the side after the loss and `before` its flows before it
-abbrev pub loss_posts : Side → ℕ → Bool → Peer → Flow → List Entry → List Post
-loss_posts x k own p before past =
+abbrev pub loss_posts : Setup → Side → ℕ → Bool → Peer → Flow → List Entry → List Post
+loss_posts setup x k own p before past =
     if p.group == 0 then [] else
     drop_posts x k own p ++
-    (if resends_key k before then key_again x p (keys_of x past).keys (deleting_rmbs x past) before.key ∷ [] else []) ++
+    (if resends_key k before then key_again x p (keys_of x past).keys (deleting_rmbs setup x past) before.key ∷ [] else []) ++
     (if resends_add k before.link then add_again x p (keys_of x past) (pair_on x (flow_slot before.link) past) before.link else [])
 
 -- what a side posts as it reports the link of a slot after a history
-abbrev pub report_posts : Side → ℕ → Bool → List Entry → List Post
-report_posts x k own past = loss_posts x k own (loses k (peer_of x past)) (flow_of x past) past
+abbrev pub report_posts : Setup → Side → ℕ → Bool → List Entry → List Post
+report_posts setup x k own past = loss_posts setup x k own (loses k (peer_of x past)) (flow_of x past) past
 
 -- ADD LINK CONTINUATION of B for the new link, on its lowest live link
 abbrev pub keys_post : ℕ → Peer → Keys → Post
@@ -224,13 +224,13 @@ step_posts setup x on m past Reject = Llc x on (reject_link (named_slot m on.slo
 step_posts setup x on m past ReplyRetry = Llc x on (key_reply true m) ∷ []
 step_posts setup x on m past Learn = Llc x on (key_reply false m) ∷ []
 step_posts setup x on m past Forget = Llc x on (delete_reply on (book_of x past) m) ∷ []
-step_posts setup x on m past (Gone report) = Llc x on (drop_reply m) ∷ (if report then report_posts x (named_slot m on.slot) false past else [])
+step_posts setup x on m past (Gone report) = Llc x on (drop_reply m) ∷ (if report then report_posts setup x (named_slot m on.slot) false past else [])
 step_posts setup x on m past Echo = Llc x on (echo m) ∷ []
 step_posts setup x on m past _ = []
 
 -- the RMBs that a side would trim: those with keys and no element lent
 abbrev pub trimmed : Setup → List ℕ → Side → List Entry → List ℕ
-trimmed setup payload x past = filter (λ rmb. has rmb (map (λ k. k.rmb) (keys_of x past).keys) && is_idle rmb (lent setup payload x past)) (up_to 2)
+trimmed setup payload x past = filter (λ rmb. has rmb (map (λ k. k.rmb) (keys_of x past).keys) && is_idle rmb (lent setup payload x past)) (up_to (rmbs_of setup x))
 
 -- DELETE RKEY for the RMBs to be trimmed
 abbrev pub trim_post : Setup → List ℕ → Side → List Entry → Post

@@ -4,14 +4,14 @@ use Rattle.std.specs.Prelude.{true, [], ◌∷◌}
 use Rattle.pipe_model.specs.declared.setup.Setup.{Setup}
 use Rattle.pipe_model.specs.declared.setup.Room.{Room}
 
--- both sides capable in subnet 10.0.0.0/24, one slot, one RMB a side of four elements of 16,384 bytes, one socket
+-- both sides capable in subnet 10.0.0.0/24, two slots, two RMBs a side of four elements of 16,384 bytes, one socket
 abbrev pub default_setup : Setup
 default_setup = record {
   capable = true ∷ true ∷ [];
   subnet = (167772160, 24) ∷ (167772160, 24) ∷ [];
-  links = 1;
+  links = 2;
   size_code = 0;
-  rmbs = 1 ∷ 1 ∷ [];
+  rmbs = 2 ∷ 2 ∷ [];
   elements = 4 ∷ 4 ∷ [];
   depth = 1;
   number = 1;

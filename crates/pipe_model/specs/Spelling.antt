@@ -36,11 +36,9 @@ read_snapshot size taken m = record {
   aborted = has_flag 0x20 m.state;
 }
 
--- that a snapshot is within the distances from one that was taken: its number and its counts have moved on by less than they
--- need to come round, where the told count may have gone back by at most an element
+-- that a snapshot is within the distances from one that was taken: its counts have moved on by less than they need to come round, where
+-- the told count may have gone back by at most an element. Of its number 16 bits are told and no more
 pub record IsWithin (size : ℕ) (taken s : Snapshot) : Type 0 where
-  pub number : taken.number ≤ s.number
-  pub number_near : s.number < taken.number + 65_536
   pub told : taken.told ≤ s.told + size
   pub told_near : s.told + size < taken.told + 65_536 * size
   pub read : taken.read ≤ s.read

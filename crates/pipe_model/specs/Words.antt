@@ -20,6 +20,14 @@ abbrev pub is_nil : {X : Type 0} → List X → Bool
 is_nil [] = true
 is_nil (x ∷ xs) = false
 
+-- the subnet of a side, and its prefix length
+abbrev pub subnet_of : Setup → Side → ℕ × ℕ
+subnet_of setup x = at_side x (slice_index_or setup.subnet 0 (0, 0)) (slice_index_or setup.subnet 1 (0, 0))
+
+-- whether a side is capable of SMC-R
+abbrev pub is_capable : Setup → Side → Bool
+is_capable setup x = at_side x (slice_index_or setup.capable 0 false) (slice_index_or setup.capable 1 false)
+
 -- the bytes of one element
 abbrev pub element_size : Setup → ℕ
 element_size setup = 2 ^ (setup.size_code + 14)

@@ -21,9 +21,13 @@ abbrev pub is_pending : LinkPhase → Bool
 is_pending Pending = true
 is_pending _ = false
 
+-- whether a link in this phase may carry what was asked on it, and its answers: one that is live
+abbrev pub may_carry : LinkPhase → Bool
+may_carry phase = is_live phase
+
 -- a link stands at a side from its making until the side has reported it
 abbrev pub is_standing : LinkPhase → Bool
-is_standing phase = is_pending phase || is_live phase
+is_standing phase = is_pending phase || may_carry phase
 
 -- whether two phases are the same
 abbrev pub same_phase : LinkPhase → LinkPhase → Bool
