@@ -60,7 +60,7 @@ after_abort Finished = Resetting OwnAbort
 after_abort phase = phase
 
 -- the peer's abort or a gap strikes it
--- RFC 7609, 4.8 of an abort and 4.6 of a gap; the table is ours
+-- RFC 7609, 4.8 (an abort) and 4.6 (a gap); the table is ours
 abbrev pub struck : ResetCause → Phase → Phase
 struck cause Open = Resetting cause
 struck cause Finished = Resetting cause
@@ -68,7 +68,7 @@ struck cause Closing = Resetting cause
 struck cause phase = phase
 
 -- its group ends
--- ours: the RFC does not give the phases of an end whose last link is lost
+-- ours: the end of a group resets
 abbrev pub ended_with : ℕ → Phase → Phase
 ended_with group Open = GroupGone group
 ended_with group Finished = GroupGone group

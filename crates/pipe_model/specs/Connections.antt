@@ -109,7 +109,7 @@ after_event B s (Clc t A) reply state = if s == t then after_clc reply state els
 after_event x s _ _ state = state
 
 -- an end that waits for CONFIRM LINK is reset with its group
--- ours: the RFC does not say what becomes of one that waits
+-- ours: the end of a group resets, and does not decline
 abbrev pub after_loss : Bool → ℕ → EndState → EndState
 after_loss true group WaitsLink = WasReset (NoLiveLink group)
 after_loss lost group state = state

@@ -130,7 +130,7 @@ abbrev pub loses_group : Half → Half
 loses_group h = record h { stands = false; phase = ended_with h.link.group h.phase }
 
 -- a peer's abort or a gap strikes it; of an end that is not up nothing can be asked, so that it shows once it is
--- RFC 7609, 4.8 of an abort and 4.6 of a gap
+-- RFC 7609, 4.8 (an abort) and 4.6 (a gap)
 abbrev pub strikes : ResetCause → Half → Half
 strikes cause h = record h { phase = struck cause h.phase }
 

@@ -48,7 +48,7 @@ offered_if true link offer = Some (record { link = link; offer = offer })
 offered_if false link offer = None
 
 -- the offer that a post makes for a side on a socket: an Accept of B, or a Confirm of A
--- RFC 7609, 3.5: the server offers with Accept, the client with Confirm
+-- RFC 7609, 3.5
 abbrev pub offer_in : Side → ℕ → Post → Option Offered
 offer_in B s (Clc B t (Some link) (Accept o)) = offered_if (s == t) link o
 offer_in A s (Clc A t (Some link) (Confirm o)) = offered_if (s == t) link o

@@ -38,7 +38,7 @@ abbrev pub lends_by : ℕ → LinkId → Offer → Lending
 lends_by s link o = record { place = record { rmb = rmb_at o.address; index = o.index }; s = s; group = link.group; token = o.token }
 
 -- the lending that a post begins: B lends with an Accept, A with a Confirm
--- RFC 7609, 3.5: the server lends with Accept, the client with Confirm
+-- RFC 7609, 3.5
 abbrev pub lends : Side → Post → Option Lending
 lends B (Clc B s (Some link) (Accept o)) = Some (lends_by s link o)
 lends A (Clc A s (Some link) (Confirm o)) = Some (lends_by s link o)
@@ -51,7 +51,7 @@ lendings x [] = []
 lendings x (e ∷ older) = filter_map (lends x) e.posts ++ lendings x older
 
 -- how often an element was lent: the epoch of its last lending
--- ours: how often an element was lent
+-- ours: it tells the lendings of an element apart
 abbrev pub epoch : Side → Place → List Entry → ℕ
 epoch x place past = length (filter (λ l. same_place place l.place) (lendings x past))
 
@@ -61,7 +61,7 @@ abbrev pub terms_of : Setup → Terms
 terms_of setup = record { size = element_size setup; depth = setup.depth; number = setup.number }
 
 -- the private pipe of the connection of a socket in a group
--- ours: what a setup fixes for a connection
+-- ours: a connection without its fabric
 abbrev pub pipe_of : Setup → List ℕ → ℕ → ℕ → List Entry → Pipe
 pipe_of setup payload group s past = pipe (terms_of setup) (part payload group s past)
 
@@ -97,17 +97,17 @@ lent setup payload x [] = []
 lent setup payload x (e ∷ older) = filter_map (lends x) e.posts ++ filter (λ l. not (returns setup payload x e older l)) (lent setup payload x older)
 
 -- the places that are lent
--- ours: a state after a history
+-- ours: a list helper
 abbrev pub lent_places : List Lending → List Place
 lent_places lent_now = map (λ l. l.place) lent_now
 
 -- the free elements of a side, the lowest first
--- ours: a state after a history
+-- ours: the order; RFC 7609, 4.2 for the elements
 abbrev pub free_places : Setup → List ℕ → Side → List Entry → List Place
 free_places setup payload x past = filter (is_free (lent_places (lent setup payload x past))) (all_places (rmbs_of setup x) (elements_of setup x))
 
 -- whether no element of an RMB is lent
--- ours: a state after a history
+-- ours: a look-up
 abbrev pub is_idle : ℕ → List Lending → Bool
 is_idle rmb lent_now = not (list_any (λ l. l.place.rmb == rmb) lent_now)
 

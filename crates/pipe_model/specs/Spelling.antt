@@ -31,7 +31,7 @@ abbrev pub has_flag : ℕ → ℕ → Bool
 has_flag bit state = (state / bit % 2) == 1
 
 -- the snapshot that a CDC message tells an end which has taken an earlier one
--- RFC 7609, A.4
+-- RFC 7609, A.4; how numbers that went round are read back is ours
 abbrev pub read_snapshot : ℕ → Snapshot → CdcMessage → Snapshot
 read_snapshot size taken m = record {
   number = number_from taken.number m.number;
