@@ -48,7 +48,7 @@ step-of-lawful setup payload earlier e later heard lawful =
     record { before = i.before; lawful = i.lawful; after = i.after; step = i.step; later = i.later; heard_is = i.heard_is }
 
 -- of a near part all is claimed
-claimed-whole : (t : Told) → as_claimed true t ≡ t
+pub claimed-whole : (t : Told) → as_claimed true t ≡ t
 claimed-whole (Plain reply) = refl
 claimed-whole (Hands bytes) = refl
 
