@@ -8,7 +8,7 @@
 #![tactic(auto)]
 
 ghost use Rattle.std.specs.Prelude.{◌≡◌, false};
-ghost use Rattle.pipe_model.specs.Connections.{HasFallen, IsUp};
+ghost use Rattle.pipe_model.specs.Connections.{HasFallen, IsUp, WasReset};
 ghost use Rattle.pipe_model.specs.Handshake.{verdict};
 ghost use Rattle.clc_handshake.specs.Stages.{first_state, after_step, seen_state};
 
@@ -18,7 +18,7 @@ mod stage;
 
 use crate::stage::Stage;
 pub use laws::a_reply_tells_the_state;
-use pipe_model::{ClcMessage, ClcStep, Lacks, Side};
+use pipe_model::{ClcMessage, ClcStep, Lacks, ResetCause, Side};
 pub use stage::EndState;
 use std::marker::Model;
 
@@ -72,6 +72,14 @@ impl Handshake {
         ensures { self.new ≡ record self.old { state = IsUp } }
     {
         self.stage = Stage::Up;
+    }
+
+    /// The end is reset for this cause, by something else than a message: its group ended, or what came
+    /// is no message.
+    pub fn reset(&mut self, cause: ResetCause)
+        ensures { self.new ≡ record self.old { state = WasReset cause } }
+    {
+        self.stage = Stage::Reset(cause);
     }
 
     /// The step that `on` would answer now; nothing changes.
@@ -180,6 +188,11 @@ mod tests {
         );
         let confirm = ClcMessage::Confirm(offer(false));
         assert_eq!(rt; end.on(&confirm, &NO_GROUP), ClcStep::Lost);
+
+        let mut end = Handshake::new(Side::B, false);
+        let cause = ResetCause::NoLiveLink { group: 1 };
+        end.reset(cause);
+        assert_eq!(rt; end.state(), EndState::Reset(cause));
     }
 
     #[test]
