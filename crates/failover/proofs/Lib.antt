@@ -1,3 +1,4 @@
 pub mod KnownLinks
+pub mod Lightest
 pub mod LiveLinks
 pub mod Shown

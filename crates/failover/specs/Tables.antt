@@ -1,5 +1,5 @@
 -- The links of a side by slot, and how many were made on each.
-use Rattle.std.specs.Prelude.{◌≡◌, ℕ, ◌+◌, if◌then◌else◌, List, [], ◌∷◌}
+use Rattle.std.specs.Prelude.{◌≡◌, ℕ, ◌+◌, ◌≤◌, if◌then◌else◌, List, [], ◌∷◌}
 use Rattle.smc_num.specs.declared.LinkId.{LinkId}
 use Rattle.smc_num.specs.declared.LinkPhase.{LinkPhase}
 use Rattle.smc_num.specs.declared.LinkPhase.TheVariants.{Unused}
@@ -21,3 +21,8 @@ known_in (phase ∷ phases) (link ∷ links) = if same_phase phase Unused then k
 abbrev pub AreInOrder : ℕ → List LinkId → Type 0
 AreInOrder slot [] = Unit {0}
 AreInOrder slot (link ∷ links) = (link.slot ≡ slot) × AreInOrder (slot + 1) links
+
+-- the slots of the known links rise, and all are among these
+abbrev pub AreRising : ℕ → ℕ → List Known → Type 0
+AreRising from to [] = Unit {0}
+AreRising from to (known ∷ table) = (from ≤ known.link.slot) × (known.link.slot ≤ to) × AreRising (known.link.slot + 1) to table

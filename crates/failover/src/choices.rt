@@ -1,7 +1,7 @@
 //! Which link is chosen.
 ghost use Rattle.std.specs.Prelude.{◌≡◌, ◌+◌, ◌≤◌, ◌↔◌, ◌<◌, false, ℕ, length, IfSome, IfNone};
 ghost use Rattle.smc_num.specs.Links.{is_live};
-ghost use Rattle.failover.specs.Choices.{lowest_from, is_live_at, IsBest, IsFewest, is_due_for_move};
+ghost use Rattle.failover.specs.Choices.{lowest_from, is_live_at, IsBest, IsFewest};
 
 use smc_num::LinkPhase;
 
@@ -56,12 +56,4 @@ pub fn fewest(phases: &[LinkPhase], loads: &[u32]) -> Option<u8>
     }
     let at = best?;
     Some(at as u8 + 1)
-}
-
-/// Whether an established end that isn't over moves to another link, by the phase of its link and
-/// whether its own closed or aborted snapshot has completed.
-pub fn due_for_move(phase: LinkPhase, told_end: bool) -> bool
-    ensures { result ≡ is_due_for_move phase told_end }
-{
-    !is_live(phase) && !told_end
 }

@@ -12,13 +12,13 @@ ghost use Rattle.smc_num.specs.Names.{has_link, up_to};
 ghost use Rattle.smc_num.specs.Links.{first_live, is_live, is_standing, link_at, live_links, lowest_live, phase_at, put, set_phase};
 ghost use Rattle.smc_num.specs.declared.LinkPhase.TheVariants.{Pending, Live, Dead};
 ghost use Rattle.failover.specs.Choices.{lowest_from, IsFewest, is_due_for_move};
-ghost use Rattle.failover.specs.Tables.{Links};
+ghost use Rattle.failover.specs.Tables.{Links, AreRising};
 
 mod choices;
 pub mod laws;
 
 use crate::choices::is_live;
-pub use crate::choices::{due_for_move, fewest, lowest_live};
+pub use crate::choices::{fewest, lowest_live};
 use smc_num::{LinkId, LinkPhase};
 use std::marker::Model;
 
@@ -155,6 +155,14 @@ impl LinkTable {
         is_live(self.phases[at]) && link == self.latest[at]
     }
 
+    /// Whether an established end on that very link moves to another one, where `may_move` says that
+    /// its group stands and its own closed or aborted snapshot has not completed.
+    pub fn due_for_move(&self, link: LinkId, may_move: bool) -> bool
+        ensures { result ≡ is_due_for_move link self.now.known may_move }
+    {
+        !self.is_live(link) && may_move
+    }
+
     /// The lowest slot whose link is live, or 0.
     pub fn lowest(&self) -> u8
         ensures { result ≡ lowest_live self.now.known }
@@ -167,6 +175,7 @@ impl LinkTable {
         ensures phases { result.now ≡ map (λ k. phase_at k self.now.known) (up_to self.now.slots) }
         // So the lowest live slot of these phases is that of the first live link.
         ensures lowest { lowest_from 1 result.now ≡ option_map (λ link. link.slot) (first_live self.now.known) }
+        ensures rising { AreRising 1 self.now.slots self.now.known }
     {
         &self.phases[..self.slots as usize]
     }
@@ -204,9 +213,9 @@ mod tests {
         assert_eq!(rt; fewest(table.phases(), &[2, 1]), Some(2));
         table.report(1);
         assert_eq!(rt; lowest_live(table.phases()), Some(2));
-        assert!(rt; due_for_move(LinkPhase::Dead, false));
-        assert!(rt; !due_for_move(LinkPhase::Dead, true));
-        assert!(rt; !due_for_move(LinkPhase::Live, false));
+        assert!(rt; table.due_for_move(FIRST, true));
+        assert!(rt; !table.due_for_move(FIRST, false));
+        assert!(rt; !table.due_for_move(SECOND, true));
         assert_eq!(rt; table.lowest(), 2);
         assert!(rt; table.is_live(SECOND));
         assert!(rt; !table.is_live(FIRST));

@@ -1,8 +1,8 @@
 -- What a side has learnt of its peer's keys: for each RMB and link the number, and the address at which the RMB begins.
-use Rattle.std.specs.Prelude.{◌≡◌, ℕ, ◌≤◌, not, ◌==◌, false, List, [], ◌∷◌, ◌++◌, map, filter, find, Option}
-use Rattle.std.specs.List.{list_any}
+use Rattle.std.specs.Prelude.{ℕ, not, ◌==◌, List, [], ◌∷◌, ◌++◌, map, filter, find, Option}
 use Rattle.smc_num.specs.declared.LinkId.{LinkId}
-use Rattle.smc_num.specs.Keys.{Key, is_for, is_bound}
+use Rattle.smc_num.specs.Names.{has}
+use Rattle.smc_num.specs.Keys.{Key, is_for, is_bound, rmbs_bound, AreBoundApart, AreInRange}
 
 -- a key of the peer, and the address of its RMB
 pub record Learnt : Type 0 where
@@ -27,25 +27,15 @@ learns new known = filter (λ l. not (is_for new.key.rmb new.key.link.slot l.key
 abbrev pub forgets : ℕ → List Learnt → List Learnt
 forgets rmb known = filter (λ l. not (l.key.rmb == rmb)) known
 
+-- all but what is known of the RMBs that have a key on a link
+abbrev pub forgets_named : ℕ → LinkId → List Learnt → List Learnt
+forgets_named key link known = filter (λ l. not (has l.key.rmb (rmbs_bound key link (keys_in known)))) known
+
 -- what is known of an RMB for a link
 abbrev pub known_for : ℕ → LinkId → List Learnt → Option Learnt
 known_for rmb link known = find (λ l. is_bound rmb link l.key) known
 
--- an RMB has at most one key for a slot
-abbrev pub AreApart : List Key → Type 0
-AreApart [] = Unit {0}
-AreApart (k ∷ keys) = (list_any (is_for k.rmb k.link.slot) keys ≡ false) × AreApart keys
-
--- RMB and slot are in range
-abbrev pub IsInRange : ℕ → ℕ → ℕ → ℕ → Type 0
-IsInRange rmbs links rmb slot = (1 ≤ rmb) × (rmb ≤ rmbs) × (1 ≤ slot) × (slot ≤ links)
-
--- they are so for each key
-abbrev pub AreInRange : ℕ → ℕ → List Key → Type 0
-AreInRange rmbs links [] = Unit {0}
-AreInRange rmbs links (k ∷ keys) = IsInRange rmbs links k.rmb k.link.slot × AreInRange rmbs links keys
-
 -- what is true of every book
 pub record IsBook (book : Book) : Type 0 where
-  pub apart : AreApart (keys_in book.known)
+  pub apart : AreBoundApart (keys_in book.known)
   pub in_range : AreInRange book.rmbs book.links (keys_in book.known)

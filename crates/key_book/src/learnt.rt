@@ -1,7 +1,7 @@
 //! A list of what was learnt: what it has, and how it changes.
 ghost use Rattle.std.specs.Prelude.{◌≡◌, ◌≤◌, not, filter, find, option_map, length, vec_len, vec_capacity};
 ghost use Rattle.smc_num.specs.Keys.{is_for, is_bound, is_named, rmb_bound};
-ghost use Rattle.key_book.specs.Books.{keys_in, learns, forgets, known_for};
+ghost use Rattle.key_book.specs.Books.{keys_in, learns, forgets, forgets_named, known_for};
 
 use smc_num::LinkId;
 use std::marker::Model;
@@ -77,4 +77,14 @@ pub(crate) fn remove_rmb(known: &mut Vec<Entry>, rmb: u8)
     ensures capacity { vec_capacity known.new ≡ vec_capacity known.old }
 {
     known.retain(|e| e.rmb != rmb);
+}
+
+/// Removes what is known of the RMBs that have a key on a link.
+pub(crate) fn remove_named(known: &mut Vec<Entry>, key: u32, link: LinkId)
+    ensures items { known.new.items ≡ forgets_named key link known.old.items }
+    ensures capacity { vec_capacity known.new ≡ vec_capacity known.old }
+{
+    while let Some(rmb) = rmb_in(known, key, link) {
+        remove_rmb(known, rmb);
+    }
 }

@@ -7,12 +7,12 @@
 #![tactic(auto)]
 
 ghost use Rattle.std.specs.Prelude.{◌≡◌, [], option_map, IfOk};
-ghost use Rattle.smc_num.specs.Keys.{bound, binds, rmb_bound, without_rmb};
-ghost use Rattle.key_book.specs.Books.{keys_in, learns, forgets, known_for, IsInRange, IsBook};
+ghost use Rattle.smc_num.specs.Keys.{bound, binds, rmb_bound, without_named, without_rmb, IsInRange};
+ghost use Rattle.key_book.specs.Books.{keys_in, learns, forgets, forgets_named, known_for, IsBook};
 
 mod learnt;
 
-use crate::learnt::{Entry, known_for, remove_rmb, replace, rmb_of};
+use crate::learnt::{Entry, known_for, remove_named, remove_rmb, replace, rmb_of};
 use smc_num::{LinkId, NoMemory};
 use std::alloc::Global;
 use std::marker::Model;
@@ -70,6 +70,14 @@ impl KeyBook {
         ensures keys { keys_in self.new.known ≡ without_rmb rmb (keys_in self.old.known) }
     {
         remove_rmb(&mut self.known, rmb);
+    }
+
+    /// Forgets each RMB that has this key on this link, on all links.
+    pub fn forget_key(&mut self, key: u32, link: LinkId)
+        ensures known { self.new ≡ record self.old { known = forgets_named key link self.old.known } }
+        ensures keys { keys_in self.new.known ≡ without_named key link (keys_in self.old.known) }
+    {
+        remove_named(&mut self.known, key, link);
     }
 
     /// The key of an RMB on a link, and the address at which the RMB begins there.
@@ -132,6 +140,10 @@ mod tests {
         book.forget(1);
         assert_eq!(rt; book.rmb_of(513, link(1, 2)), None);
         assert_eq!(rt; book.key_for(2, link(2, 1)), Some((516, RMB_2)));
+        book.learn(1, link(1, 2), 513, RMB_1);
+        book.forget_key(516, link(2, 1));
+        assert_eq!(rt; book.key_for(2, link(1, 1)), None);
+        assert_eq!(rt; book.key_for(1, link(1, 2)), Some((513, RMB_1)));
         book.clear();
         assert_eq!(rt; book.key_for(2, link(2, 1)), None);
         Ok(())

@@ -1,6 +1,6 @@
 -- What is true of every table stays true of its keys when one is bound or some are removed.
-use Rattle.std.proofs.Common.{◌≡◌, ◌∙◌, ℕ, ◌+◌, ◌-◌, ◌<◌, ◌≤◌, ◌==◌, ◌||◌, Bool, true, false, not, cond, List, [], ◌∷◌, ◌++◌, length, map, filter, Option, Some, None, option_map, unwrap_or, refl, sym, ap, subst, arith}
-use Rattle.std.specs.Prelude.{find}
+use Rattle.std.proofs.Common.{◌≡◌, ◌∙◌, ℕ, ◌+◌, ◌-◌, ◌*◌, ◌<◌, ◌≤◌, ◌==◌, ◌||◌, Bool, true, false, not, cond, List, [], ◌∷◌, ◌++◌, length, map, filter, Option, Some, None, option_map, unwrap_or, refl, sym, ap, subst, arith}
+use Rattle.std.specs.Prelude.{find, is_some}
 use Rattle.std.specs.List.{list_any, IsDistinct, AllByRecursion}
 use Rattle.std.proofs.lemmas.Bool.{eqb-true, eq-eqb, ne_eqb}
 use Rattle.std.proofs.lemmas.List.{length-map}
@@ -10,8 +10,9 @@ use mathlib.Core.Logic.{dite}
 use native.Mathlib.Decide.{dec_le}
 use Rattle.smc_num.specs.declared.LinkId.{LinkId}
 use Rattle.smc_num.specs.Names.{no_link}
-use Rattle.smc_num.specs.Keys.{Key, is_used, lowest_unused, IsLowestUnused, is_for, key_for_slot, number_for, registers}
+use Rattle.smc_num.specs.Keys.{Key, is_used, lowest_unused, IsLowestUnused, is_for, key_for_slot, number_for, registers, has_one, AreBoundApart, IsInRange, AreInRange}
 use Rattle.smc_num.proofs.KeyLemmas.{lowest_unused_is}
+use Rattle.smc_num.proofs.KeyPlaces.{apart-filter as bound_apart-filter, apart-binds, at_most as at_most_places}
 use Rattle.rkey_table.specs.Tables.{AreApart, AreWithin, IsTable, AllUsed}
 use Rattle.rkey_table.proofs.Numbers.{lowest_unused_le}
 
@@ -164,6 +165,7 @@ registered base places rmb link keys table room =
     let rest = filter (λ k. not (is_for rmb link.slot k)) keys in
     record {
       apart = apart-push rest new (apart-filter (λ k. not (is_for rmb link.slot k)) keys table.apart) f.unused;
+      bound_apart = apart-binds new keys table.bound_apart;
       within = within-push base places rest new (within-filter base places (λ k. not (is_for rmb link.slot k)) keys table.within) f.low f.high;
     }
 
@@ -174,7 +176,7 @@ room_for base places rmb link keys table room = let new = registered base places
 
 -- keys go
 pub filtered : (base places : ℕ) (test : Key → Bool) (keys : List Key) → IsTable (record { base = base; places = places; keys = keys }) → IsTable (record { base = base; places = places; keys = filter test keys })
-filtered base places test keys table = record { apart = apart-filter test keys table.apart; within = within-filter base places test keys table.within }
+filtered base places test keys table = record { apart = apart-filter test keys table.apart; bound_apart = bound_apart-filter test keys table.bound_apart; within = within-filter base places test keys table.within }
 
 -- where there is a key for each number, all are in use
 pub all_used : (base places : ℕ) (keys : List Key) → IsTable (record { base = base; places = places; keys = keys }) → length keys ≡ places → AllUsed (record { base = base; places = places; keys = keys })
@@ -191,3 +193,21 @@ all_used base places keys table many =
 -- where all are in use, there is a key for each number
 pub many_where_used : (base places : ℕ) (keys : List Key) → AllUsed (record { base = base; places = places; keys = keys }) → places ≤ length keys
 many_where_used base places keys used = let le = lowest_unused_le base keys in omega (arith, used, le)
+
+-- an RMB without a key for a slot is none of those that have one there
+none_there : (rmb slot : ℕ) (keys : List Key) → is_some (key_for_slot rmb slot keys) ≡ false → has_one rmb slot keys ≡ false
+none_there rmb slot [] none = refl
+none_there rmb slot (k ∷ keys) none = by_test (is_for rmb slot k) none (none_there rmb slot keys)
+  where
+    by_test : (b : Bool) → is_some (option_map (λ (j : Key). j.key) (cond b (Some k) (find (is_for rmb slot) keys))) ≡ false → (is_some (key_for_slot rmb slot keys) ≡ false → has_one rmb slot keys ≡ false) → (b || has_one rmb slot keys) ≡ false
+    by_test true e rest = cc
+    by_test false e rest = rest e
+
+-- where there are numbers for all RMBs on all slots, and all numbers are in use, each RMB has one for each slot
+pub each_has_one : (base places rmbs links rmb slot : ℕ) (keys : List Key) → AreBoundApart keys → AreInRange rmbs links keys → rmbs * links ≤ places → IsInRange rmbs links rmb slot
+    → AllUsed (record { base = base; places = places; keys = keys }) → is_some (key_for_slot rmb slot keys) ≡ false → ⊥
+each_has_one base places rmbs links rmb slot keys apart within enough here used none =
+    let one_more : Key = record { key = 0; rmb = rmb; link = record no_link { slot = slot } } in
+    let few = at_most_places rmbs links (one_more ∷ keys) (none_there rmb slot keys none, apart) (here, within) in
+    let many = many_where_used base places keys used in
+    omega (arith, few, many, enough)

@@ -1,6 +1,6 @@
 -- A side's table of keys: which numbers it has, which keys are bound now, and what is true of these.
 use Rattle.std.specs.Prelude.{◌≡◌, ℕ, ◌+◌, ◌<◌, ◌≤◌, false, List, [], ◌∷◌}
-use Rattle.smc_num.specs.Keys.{Key, is_used, lowest_unused}
+use Rattle.smc_num.specs.Keys.{Key, is_used, lowest_unused, AreBoundApart}
 
 -- the numbers are those from base + 1 to base + places; the keys are in the order in which they were bound
 pub record Table : Type 0 where
@@ -21,6 +21,7 @@ AreWithin base places (k ∷ keys) = (base < k.key) × (k.key ≤ base + places)
 -- what is true of the keys of every table
 pub record IsTable (t : Table) : Type 0 where
   pub apart : AreApart t.keys
+  pub bound_apart : AreBoundApart t.keys
   pub within : AreWithin t.base t.places t.keys
 
 -- all numbers of the table are in use: the lowest unused one lies behind them

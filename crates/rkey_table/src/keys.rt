@@ -1,7 +1,7 @@
 //! A list of keys: what it has, and how it changes.
 ghost use Rattle.std.specs.Prelude.{◌≡◌, ◌+◌, ◌-◌, ◌≤◌, not, find, filter, ◌<◌, ◌^◌, ◌↔◌, IfSome, OnSome, IsNone, length, vec_len, vec_capacity};
 ghost use Rattle.std.specs.List.{range_with_len};
-ghost use Rattle.smc_num.specs.Keys.{is_used, lowest_unused, key_for_slot, number_for, registers, binds, rmb_bound, is_for, without_key};
+ghost use Rattle.smc_num.specs.Keys.{is_used, lowest_unused, key_for_slot, number_for, registers, binds, rmb_bound, is_for, without_key, without_rmb};
 ghost use Rattle.rkey_table.specs.Tables.{AllUsed, IsTable};
 
 use smc_num::LinkId;
@@ -121,4 +121,13 @@ pub(crate) fn remove_key(keys: &mut Vec<Entry>, key: u32)
     ensures capacity { vec_capacity keys.new ≡ vec_capacity keys.old }
 {
     keys.retain(|k| k.key != key);
+}
+
+/// Removes the keys of an RMB.
+pub(crate) fn remove_rmb(keys: &mut Vec<Entry>, rmb: u8)
+    ensures items { keys.new.items ≡ without_rmb rmb keys.old.items }
+    ensures len { vec_len keys.new ≤ vec_len keys.old }
+    ensures capacity { vec_capacity keys.new ≡ vec_capacity keys.old }
+{
+    keys.retain(|k| k.rmb != rmb);
 }

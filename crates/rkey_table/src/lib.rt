@@ -7,13 +7,15 @@
 #![tactic(auto)]
 
 ghost use Rattle.std.specs.Prelude.{◌≡◌, ℕ, ◌+◌, ◌≤◌, ◌<◌, ◌^◌, ◌↔◌, false, [], length, IfOk, OnOk, OnErr, IsErr, IsNone};
-ghost use Rattle.smc_num.specs.Keys.{is_used, key_for_slot, number_for, registers, rmb_bound, without_key};
+ghost use Rattle.smc_num.specs.Keys.{is_used, key_for_slot, number_for, registers, rmb_bound, without_key, without_rmb};
 ghost use Rattle.rkey_table.specs.Tables.{Table, AllUsed, IsTable};
 
 mod keys;
 pub mod laws;
 
-use crate::keys::{Entry, bind, is_used, number_for, number_of, remove_key, rmb_of};
+use crate::keys::{
+    Entry, bind, is_used, lowest_unused, number_for, number_of, remove_key, remove_rmb, rmb_of,
+};
 use smc_num::{LinkId, NoMemory};
 use std::alloc::Global;
 use std::marker::Model;
@@ -69,6 +71,7 @@ impl KeyTable {
         ensures number { IfOk result (λ key. key ≡ number_for self.old.base rmb link.slot self.old.keys) }
         ensures bound { OnOk result (self.new ≡ record self.old { keys = registers self.old.base rmb self.old.keys link }) }
         ensures full { IsErr result ↔ (IsNone (key_for_slot rmb link.slot self.old.keys) × AllUsed self.old) }
+        ensures kept { IsTable self.old }
         ensures refused { OnErr result (self.new ≡ self.old) }
     {
         let Some(key) = number_for(&self.keys, self.base, self.places, rmb, link) else {
@@ -91,6 +94,20 @@ impl KeyTable {
         Ok(())
     }
 
+    /// Takes the keys of an RMB back, on all links.
+    pub fn withdraw_rmb(&mut self, rmb: u8)
+        ensures { self.new ≡ record self.old { keys = without_rmb rmb self.old.keys } }
+    {
+        remove_rmb(&mut self.keys, rmb);
+    }
+
+    /// Takes all keys back.
+    pub fn clear(&mut self)
+        ensures { self.new ≡ record self.old { keys = [] } }
+    {
+        self.keys.clear();
+    }
+
     /// The RMB to which the key is bound on this link.
     pub fn lookup(&self, key: u32, link: LinkId) -> Option<u8>
         ensures rmb { result ≡ rmb_bound key link self.now.keys }
@@ -104,6 +121,16 @@ impl KeyTable {
         ensures { result ≡ key_for_slot rmb slot self.now.keys }
     {
         number_of(&self.keys, rmb, slot)
+    }
+
+    /// The number that an RMB has, or would get, for a slot. Where every number is in use it is one
+    /// that the table hasn't.
+    pub fn number_for(&self, rmb: u8, slot: u8) -> u32
+        requires { self.now.base + self.now.places + 1 < 2 ^ 32 }
+        ensures { result ≡ number_for self.now.base rmb slot self.now.keys }
+    {
+        self.number(rmb, slot)
+            .unwrap_or(lowest_unused(&self.keys, self.base))
     }
 }
 
@@ -138,10 +165,17 @@ mod tests {
         assert_eq!(rt; table.lookup(514, link(1, 1)), None);
         assert_eq!(rt; table.number(2, 1), Some(514));
         assert_eq!(rt; table.number(3, 1), None);
+        assert_eq!(rt; table.number_for(2, 1), 514);
         assert_eq!(rt; table.withdraw(513), Ok(()));
         assert_eq!(rt; table.withdraw(513), Err(NoKey));
         assert_eq!(rt; table.lookup(513, link(1, 1)), None);
+        assert_eq!(rt; table.number_for(3, 1), 513);
         assert_eq!(rt; table.register(3, link(1, 2)), Ok(513));
+        table.withdraw_rmb(2);
+        assert_eq!(rt; table.number(2, 2), None);
+        assert_eq!(rt; table.number(1, 2), Some(515));
+        table.clear();
+        assert_eq!(rt; table.number(1, 2), None);
         Ok(())
     }
 }

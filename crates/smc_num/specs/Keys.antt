@@ -1,10 +1,10 @@
 -- The keys of a side by number: each is bound to one RMB for one link.
-use Rattle.std.specs.Prelude.{◌≡◌, ℕ, ◌+◌, ◌<◌, ◌==◌, ◌&&◌, not, Bool, true, false, List, [], ◌∷◌, ◌++◌, length, map, filter, find, fold, Option, option_map, unwrap_or}
+use Rattle.std.specs.Prelude.{◌≡◌, ℕ, ◌+◌, ◌<◌, ◌≤◌, ◌==◌, ◌&&◌, not, Bool, true, false, List, [], ◌∷◌, ◌++◌, length, map, filter, find, fold, Option, option_map, unwrap_or}
 use Rattle.std.specs.List.{list_any, range_with_len}
 use Rattle.smc_num.specs.declared.Side.{Side}
 use Rattle.smc_num.specs.declared.Side.TheVariants.{A, B}
 use Rattle.smc_num.specs.declared.LinkId.{LinkId}
-use Rattle.smc_num.specs.Names.{same_link}
+use Rattle.smc_num.specs.Names.{has, same_link}
 
 -- a key bound to an RMB for a link
 -- RFC 7609, 2.1: an RKey stands for an RMB on one link
@@ -103,6 +103,28 @@ without_key key keys = filter (λ k. not (k.key == key)) keys
 -- ours: a list helper
 abbrev pub without_rmb : ℕ → List Key → List Key
 without_rmb rmb keys = filter (λ k. not (k.rmb == rmb)) keys
+
+-- all keys but those of the RMBs to which a number is bound on a link
+abbrev pub without_named : ℕ → LinkId → List Key → List Key
+without_named key link keys = filter (λ k. not (has k.rmb (rmbs_bound key link keys))) keys
+
+-- whether some key is that of an RMB for a slot
+abbrev pub has_one : ℕ → ℕ → List Key → Bool
+has_one rmb slot keys = list_any (is_for rmb slot) keys
+
+-- an RMB has at most one key for a slot
+abbrev pub AreBoundApart : List Key → Type 0
+AreBoundApart [] = Unit {0}
+AreBoundApart (k ∷ keys) = (has_one k.rmb k.link.slot keys ≡ false) × AreBoundApart keys
+
+-- RMB and slot are among so many, which count from 1
+abbrev pub IsInRange : ℕ → ℕ → ℕ → ℕ → Type 0
+IsInRange rmbs links rmb slot = (1 ≤ rmb) × (rmb ≤ rmbs) × (1 ≤ slot) × (slot ≤ links)
+
+-- they are so for each key
+abbrev pub AreInRange : ℕ → ℕ → List Key → Type 0
+AreInRange rmbs links [] = Unit {0}
+AreInRange rmbs links (k ∷ keys) = IsInRange rmbs links k.rmb k.link.slot × AreInRange rmbs links keys
 
 -- the lowest number above the base that no key has, in other words
 -- ours: the same in other words

@@ -1,14 +1,14 @@
 //! Laws of the definitions in `specs/` that the crates above cite. Each is a function with nothing
 //! to do, whose contract is the law.
 
-ghost use Rattle.std.specs.Prelude.{◌≡◌, ℕ, ◌+◌, ◌*◌, ◌≤◌, ◌<◌, ◌==◌, false, if◌then◌else◌, List, Some, option_map};
+ghost use Rattle.std.specs.Prelude.{◌≡◌, ℕ, ◌+◌, ◌*◌, ◌≤◌, ◌<◌, ◌==◌, Bool, false, if◌then◌else◌, List, Some, filter, length, option_map};
 ghost use Rattle.smc_num.specs.declared.Cursor.{Cursor};
 ghost use Rattle.smc_num.specs.declared.LinkId.{LinkId as Link};
 ghost use Rattle.smc_num.specs.declared.LinkPhase.{LinkPhase as Phase};
 ghost use Rattle.smc_num.specs.Numbers.{wire_number, cursor_of, past_by};
 ghost use Rattle.smc_num.specs.Names.{head};
 ghost use Rattle.smc_num.specs.Links.{Known, at_slot, put, with_phase, set_phase, first_live, live_links};
-ghost use Rattle.smc_num.specs.Keys.{Key, is_for, is_bound, bound, binds, lowest_unused, IsLowestUnused, rmb_bound, rmbs_bound};
+ghost use Rattle.smc_num.specs.Keys.{Key, is_for, is_bound, bound, binds, lowest_unused, IsLowestUnused, rmb_bound, rmbs_bound, AreBoundApart, IsInRange, AreInRange};
 
 /// How far numbers are apart on the circle shows in their 16 bits.
 pub fn wire_numbers_show_the_distance()
@@ -64,4 +64,16 @@ pub fn other_keys_stay_bound()
 pub fn the_bound_rmb_is_the_first()
     ensures { (key : ℕ) (link : Link) (keys : List Key)
         → rmb_bound key link keys ≡ head (rmbs_bound key link keys) }
+{}
+
+/// Keys of some RMBs and slots stay such when one more of these is bound, and when some go.
+pub fn keys_stay_in_range()
+    ensures bound { (rmbs links : ℕ) (new : Key) (keys : List Key) → AreInRange rmbs links keys → IsInRange rmbs links new.rmb new.link.slot
+        → AreInRange rmbs links (binds new keys) }
+    ensures gone { (rmbs links : ℕ) (test : Key → Bool) (keys : List Key) → AreInRange rmbs links keys → AreInRange rmbs links (filter test keys) }
+{}
+
+/// There are no more keys than RMBs on slots, where no two are for one of these.
+pub fn keys_are_no_more_than_rmbs_on_slots()
+    ensures { (rmbs links : ℕ) (keys : List Key) → AreBoundApart keys → AreInRange rmbs links keys → length keys ≤ rmbs * links }
 {}

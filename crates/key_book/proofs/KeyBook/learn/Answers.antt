@@ -1,6 +1,6 @@
 use Rattle.std.proofs.Common.{◌∙◌, sym, ap, subst, arith}
-use Rattle.smc_num.specs.Keys.{Key, binds}
-use Rattle.key_book.specs.Books.{Learnt, keys_in, IsInRange, IsBook}
+use Rattle.smc_num.specs.Keys.{Key, binds, IsInRange}
+use Rattle.key_book.specs.Books.{Learnt, keys_in, IsBook}
 use Rattle.key_book.proofs.KeysOf.{keys_in-learns}
 use Rattle.key_book.proofs.Kept.{learns_book, room_for}
 use Rattle.key_book.proofs.KeyBook.learn.Goals as goal
