@@ -105,23 +105,28 @@ abbrev pub without_rmb : ℕ → List Key → List Key
 without_rmb rmb keys = filter (λ k. not (k.rmb == rmb)) keys
 
 -- all keys but those of the RMBs to which a number is bound on a link
+-- ours: a list helper
 abbrev pub without_named : ℕ → LinkId → List Key → List Key
 without_named key link keys = filter (λ k. not (has k.rmb (rmbs_bound key link keys))) keys
 
 -- whether some key is that of an RMB for a slot
+-- ours: a look-up in the table
 abbrev pub has_one : ℕ → ℕ → List Key → Bool
 has_one rmb slot keys = list_any (is_for rmb slot) keys
 
 -- an RMB has at most one key for a slot
+-- ours: one key a slot is enough, as a slot has one link at a time
 abbrev pub AreBoundApart : List Key → Type 0
 AreBoundApart [] = Unit {0}
 AreBoundApart (k ∷ keys) = (has_one k.rmb k.link.slot keys ≡ false) × AreBoundApart keys
 
 -- RMB and slot are among so many, which count from 1
+-- ours: RMBs and slots count from 1
 abbrev pub IsInRange : ℕ → ℕ → ℕ → ℕ → Type 0
 IsInRange rmbs links rmb slot = (1 ≤ rmb) × (rmb ≤ rmbs) × (1 ≤ slot) × (slot ≤ links)
 
 -- they are so for each key
+-- ours: RMBs and slots count from 1
 abbrev pub AreInRange : ℕ → ℕ → List Key → Type 0
 AreInRange rmbs links [] = Unit {0}
 AreInRange rmbs links (k ∷ keys) = IsInRange rmbs links k.rmb k.link.slot × AreInRange rmbs links keys
