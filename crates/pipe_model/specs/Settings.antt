@@ -5,6 +5,7 @@ use Rattle.pipe_model.specs.declared.setup.Setup.{Setup}
 use Rattle.pipe_model.specs.declared.setup.Room.{Room}
 
 -- both sides capable in subnet 10.0.0.0/24, one slot, one RMB a side of four elements of 16,384 bytes, one socket
+-- ours: what a scene gets that sets nothing
 abbrev pub default_setup : Setup
 default_setup = record {
   capable = true ∷ true ∷ [];
@@ -19,5 +20,6 @@ default_setup = record {
 }
 
 -- 65,536 entries, and 1 MiB handed out in all
+-- ours: what a scene gets that sets nothing
 abbrev pub default_room : Room
 default_room = record { entries = 65536; bytes = 1048576 }
