@@ -266,8 +266,8 @@ impl Flows {
         self.link = Link::FirstContact;
     }
 
-    /// What holds an ADD LINK back.
-    fn add_hold(&self) -> Option<Hold>
+    /// What holds an ADD LINK back now: `begin_add` would answer it.
+    pub fn add_hold(&self) -> Option<Hold>
         ensures { result ≡ add_hold self.now.flow }
     {
         if is_first_contact(self.link) {
@@ -276,13 +276,11 @@ impl Flows {
         if is_adding(self.link) {
             return Some(Hold::AddLink);
         }
-        if self.key == KeyPhase::Asked {
-            return Some(Hold::ConfirmRkey);
+        match self.key {
+            KeyPhase::Free | KeyPhase::Retry => None,
+            KeyPhase::Asked => Some(Hold::ConfirmRkey),
+            KeyPhase::Deleting => Some(Hold::DeleteRkey),
         }
-        if self.key == KeyPhase::Deleting {
-            return Some(Hold::DeleteRkey);
-        }
-        None
     }
 
     /// The server sends ADD LINK for a slot, on its lowest live link. It is held in first contact, while
@@ -335,8 +333,8 @@ impl Flows {
         Ok(())
     }
 
-    /// What holds a DELETE RKEY back.
-    fn delete_hold(&self) -> Option<Hold>
+    /// What holds a DELETE RKEY back now: `begin_delete` would answer it.
+    pub fn delete_hold(&self) -> Option<Hold>
         ensures { result ≡ delete_hold self.now.flow }
     {
         if is_first_contact(self.link) {

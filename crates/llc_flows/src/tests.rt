@@ -112,6 +112,7 @@ fn the_server_adds_a_link(rt: HostRuntime) {
     assert_eq!(rt; flows.begin_add(2, 1), Ok(()));
     assert!(rt; flows.adding());
     assert_eq!(rt; flows.begin_add(2, 1), Err(Hold::AddLink));
+    assert_eq!(rt; flows.add_hold(), Some(Hold::AddLink));
     assert_eq!(rt;
         flows.on(&confirm_rkey(false), &STANDS, 1, true, 1),
         FlowStep::ReplyRetry
@@ -198,6 +199,7 @@ fn keys_are_confirmed_and_deleted(rt: HostRuntime) {
         FlowStep::Retry
     );
     assert_eq!(rt; flows.begin_delete(2), Err(Hold::ConfirmRkey));
+    assert_eq!(rt; flows.delete_hold(), Some(Hold::ConfirmRkey));
     assert_eq!(rt; flows.begin_confirm(2, 2), Ok(()));
     assert_eq!(rt;
         flows.on(&confirm_rkey(true), &STANDS, 2, true, 2),
