@@ -1,4 +1,4 @@
--- TODO
+-- What an entry does to one link: which of its posts land, complete or are swallowed, at which places they stand, and whose they are. For any link, latest or not.
 mod Carries
 mod Own
 mod Places
@@ -29,46 +29,27 @@ pub use Rattle.history_laws.proofs.Wires.Carries.{carried-completes}
 pub use Rattle.history_laws.proofs.Wires.Carries.{carried-moved}
 -- by the offer
 pub use Rattle.history_laws.proofs.Wires.Own.{own-none}
--- TODO own-some
-pub use Rattle.history_laws.proofs.Wires.Own.{own-some}
 -- a post is a side's CDC message under a token, or it is not
-pub use Rattle.history_laws.proofs.Wires.Own.{IsOrNot}
-pub use Rattle.history_laws.proofs.Wires.Own.{Is}
-pub use Rattle.history_laws.proofs.Wires.Own.{IsNot}
--- TODO is-or-not
-pub use Rattle.history_laws.proofs.Wires.Own.{is-or-not}
--- the group of an offered connection is the one group
+pub use Rattle.history_laws.proofs.Wires.Own.{IsOrNot, Is, IsNot}
+-- the group of an offered connection
 pub use Rattle.history_laws.proofs.Wires.Own.{group_by}
--- TODO placed-append
-pub use Rattle.history_laws.proofs.Wires.Places.{placed-append}
--- TODO placed-drop
-pub use Rattle.history_laws.proofs.Wires.Places.{placed-drop}
--- TODO placed-take
-pub use Rattle.history_laws.proofs.Wires.Places.{placed-take}
--- TODO placed-filter
-pub use Rattle.history_laws.proofs.Wires.Places.{placed-filter}
+-- whether a post is a side's CDC message under a token, and that its landing is then the connection's own
+pub use Rattle.history_laws.proofs.Wires.Own.{own-some, is-or-not}
 -- each post that has not landed, and each that has not completed, stands at its place
 pub use Rattle.history_laws.proofs.Wires.Places.{unlanded-stand}
--- TODO uncompleted-stand
-pub use Rattle.history_laws.proofs.Wires.Places.{uncompleted-stand}
 -- the first of them
 pub use Rattle.history_laws.proofs.Wires.Places.{first-stands}
--- Which way any entry goes for any link: of any slot, latest or not, and whatever came before. whether an item is no landing and no completion of the end at a side
+-- posts that stand at their places do so in any part of the list; and so do those that have landed
+pub use Rattle.history_laws.proofs.Wires.Places.{placed-append, placed-drop, placed-take, placed-filter, uncompleted-stand}
+-- whether an item is no landing and no completion of the end at a side
 pub use Rattle.history_laws.proofs.Wires.Ways.{apart}
--- TODO not-both
-pub use Rattle.history_laws.proofs.Wires.Ways.{not-both}
--- TODO nil-is
-pub use Rattle.history_laws.proofs.Wires.Ways.{nil-is}
 -- an item that lands or completes a message of the end at a side
 pub use Rattle.history_laws.proofs.Wires.Ways.{IsMessage}
 -- a post of a side that waits on a link is swallowed
 pub use Rattle.history_laws.proofs.Wires.Ways.{SwallowedNow}
 -- what an entry does to one link and the messages of one side: nothing of the side moves; one moves, on another link; the next lands; the oldest landed one completes; the next is swallowed
-pub use Rattle.history_laws.proofs.Wires.Ways.{Goes}
-pub use Rattle.history_laws.proofs.Wires.Ways.{Quietly}
-pub use Rattle.history_laws.proofs.Wires.Ways.{Elsewhere}
-pub use Rattle.history_laws.proofs.Wires.Ways.{LandsHere}
-pub use Rattle.history_laws.proofs.Wires.Ways.{CompletesHere}
-pub use Rattle.history_laws.proofs.Wires.Ways.{SwallowedHere}
+pub use Rattle.history_laws.proofs.Wires.Ways.{Goes, Quietly, Elsewhere, LandsHere, CompletesHere, SwallowedHere}
 -- whatever event is told what the definitions tell
 pub use Rattle.history_laws.proofs.Wires.Ways.{goes}
+-- small facts of the same proof
+pub use Rattle.history_laws.proofs.Wires.Ways.{not-both, nil-is}

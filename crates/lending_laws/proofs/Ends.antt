@@ -1,4 +1,4 @@
--- TODO
+-- All that the agreement of wires and pipes wants of offers, links and ends.
 mod All
 mod Begins
 mod Comes

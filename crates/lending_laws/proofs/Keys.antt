@@ -1,4 +1,4 @@
--- TODO
+-- Keys bound and keys learnt, from what lendings, links, flows and messages owe.
 mod Agree
 mod Asked
 mod Bound

@@ -1,4 +1,4 @@
--- TODO
+-- What is lent, how a lending ends, when its element is lent again, and what comes under its token after that.
 mod All
 mod Apart
 mod Done
@@ -11,17 +11,15 @@ mod Places
 mod Returns
 mod Reuse
 mod Told
--- TODO accept-facts
-pub use Rattle.lending_laws.proofs.Lendings.Groups.{accept-facts}
--- TODO confirm-facts
-pub use Rattle.lending_laws.proofs.Lendings.Groups.{confirm-facts}
+-- what a verdict that offers tells of group, link and element
+pub use Rattle.lending_laws.proofs.Lendings.Groups.{accept-facts, confirm-facts}
 -- what the agreement of wires and pipes wants with an entry
 pub use Rattle.lending_laws.proofs.Lendings.Least.{go-on-plain}
 -- what the agreement of wires and pipes wants of offers, without a word on parts
 pub use Rattle.lending_laws.proofs.Lendings.Least.{plain-offers}
--- G2 from the least, as the law of an entry says it
+-- an element is lent again only when it is done with, from the least that is owed
 pub use Rattle.lending_laws.proofs.Lendings.Least.{relending}
--- T1 to T4 from the least
+-- lendings are apart, held and done with, from the least that is owed
 pub use Rattle.lending_laws.proofs.Lendings.Least.{lending-laws}
 -- reuse from the least
 pub use Rattle.lending_laws.proofs.Lendings.Least.{no-old-bytes}
@@ -31,7 +29,5 @@ pub use Rattle.lending_laws.proofs.Lendings.Owed.{all-psn}
 pub use Rattle.lending_laws.proofs.Lendings.Owed.{grouped-own}
 -- A's offer names the link that B's does
 pub use Rattle.lending_laws.proofs.Lendings.Returns.{same-link}
--- TODO names-record
-pub use Rattle.lending_laws.proofs.Lendings.Reuse.{names-record}
--- TODO no-writes
-pub use Rattle.lending_laws.proofs.Lendings.Reuse.{no-writes}
+-- the token of what is lent names its lending; and a message without bytes is posted with no write before it
+pub use Rattle.lending_laws.proofs.Lendings.Reuse.{names-record, no-writes}

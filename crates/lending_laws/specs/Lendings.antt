@@ -13,7 +13,7 @@ AreCounted (l ∷ ls) = (l.token ≡ length ls + 1) × AreCounted ls
 abbrev pub IsOfOffer : Side → List Entry → Lending → Type 0
 IsOfOffer x past l = (o : Offered) × ((offered x l.s past ≡ Some o) × (l ≡ lends_by l.s o.link o.offer))
 
--- T1: the lendings of a side are numbered by their tokens, and each is that of the one offer of its socket and side, and the other way round
+-- the lendings of a side are numbered by their tokens, and each is that of the one offer of its socket and side, and the other way round
 pub record AreLendings (x : Side) (past : List Entry) : Type 0 where
   pub counted : AreCounted (lendings x past)
   pub of_offer : (l : Lending) → IsAmong l (lendings x past) → IsOfOffer x past l
@@ -37,7 +37,7 @@ pub data HasReturned (setup : Setup) (payload : List ℕ) (x : Side) (l : Lendin
   AsOut : is_out (end_state x l.s past) ≡ true → HasReturned setup payload x l past
   AsOver : is_over_on setup payload x l past ≡ true → HasReturned setup payload x l past
 
--- T3 and T4: each lending of a side is lent, or has returned; and then it is done with
+-- each lending of a side is lent, or has returned; and then it is done with
 pub record AreDone (setup : Setup) (payload : List ℕ) (x : Side) (past : List Entry) : Type 0 where
   pub returned : (l : Lending) → IsAmong l (lendings x past) → IsAmong l (lent setup payload x past) ⊎ HasReturned setup payload x l past
   pub stays_lent : (l : Lending) → IsAmong l (lendings x past) → is_holding (end_state x l.s past) ≡ true → is_over_on setup payload x l past ≡ false → has_ended x l.group past ≡ false → IsAmong l (lent setup payload x past)
@@ -48,7 +48,7 @@ pub record HasElements (setup : Setup) : Type 0 where
   pub rmbs : (x : Side) → 1 ≤ rmbs_of setup x
   pub elements : (x : Side) → 1 ≤ elements_of setup x
 
--- T1 and T2: each lending is of a place of its side's RMBs; what is lent is of the side's group, its end holds it, and no two are of one place
+-- each lending is of a place of its side's RMBs; what is lent is of the side's group, its end holds it, and no two are of one place
 pub record AreApart (setup : Setup) (payload : List ℕ) (x : Side) (past : List Entry) : Type 0 where
   pub in_range : (l : Lending) → IsAmong l (lendings x past) → IsAmong l.place (all_places (rmbs_of setup x) (elements_of setup x))
   pub group : (l : Lending) → IsAmong l (lent setup payload x past) → (l.group ≡ group_of x past) × ((l.group == 0) ≡ false)

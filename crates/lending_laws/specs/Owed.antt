@@ -50,7 +50,7 @@ abbrev pub AllOwn : List Entry → Type 0
 AllOwn [] = Unit {0}
 AllOwn (e ∷ past) = IsOwn B (peer B (fabric past)) × AllOwn past
 
--- what the agreement of wires and pipes wants of offers (`OwedPlain` of `Agreeing`): they are on known sockets, the token tells the
+-- what the agreement of wires and pipes wants of offers: they are on known sockets, the token tells the
 -- socket, A offers only where B has, and B's link has a group
 pub record ArePlainOffers (setup : Setup) (past : List Entry) : Type 0 where
   pub known : (x : Side) (s : ℕ) (o : Offered) → offered x s past ≡ Some o → s < setup.sockets

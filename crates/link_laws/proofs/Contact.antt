@@ -1,4 +1,4 @@
--- TODO
+-- First contact through every event: its three rows, the offers on sockets, the count of groups; and what it owes to links and flows.
 mod Beyond
 mod Changes
 mod Counted
@@ -34,21 +34,15 @@ pub use Rattle.link_laws.proofs.Contact.Changes.{IsKept}
 -- B takes the Proposal and begins a group
 pub use Rattle.link_laws.proofs.Contact.Changes.{IsBeginning}
 -- what an entry is
-pub use Rattle.link_laws.proofs.Contact.Changes.{Kind}
-pub use Rattle.link_laws.proofs.Contact.Changes.{Plain}
-pub use Rattle.link_laws.proofs.Contact.Changes.{Begins}
-pub use Rattle.link_laws.proofs.Contact.Changes.{Joins}
-pub use Rattle.link_laws.proofs.Contact.Changes.{Readies}
+pub use Rattle.link_laws.proofs.Contact.Changes.{Kind, Plain, Begins, Joins, Readies}
 -- an Accept of first contact can be taken in its row alone
 pub use Rattle.link_laws.proofs.Contact.Offers.{offered-row}
 -- the link that A joins on is the next of its slot
 pub use Rattle.link_laws.proofs.Contact.Offers.{joined-next}
--- TODO not-up
-pub use Rattle.link_laws.proofs.Contact.OtherLandings.{not-up}
 -- a landing that is not of the link flow does nothing to a side in first contact but to end its group, and posts nothing of the link flow there
 pub use Rattle.link_laws.proofs.Contact.OtherLandings.{IsHarmless}
--- TODO harmless
-pub use Rattle.link_laws.proofs.Contact.OtherLandings.{harmless}
+-- a message that is not of the link flow establishes no end and does no harm to first contact
+pub use Rattle.link_laws.proofs.Contact.OtherLandings.{not-up, harmless}
 -- all that the handshake owes after a history, from what first contact is there
 pub use Rattle.link_laws.proofs.Contact.Owing.{owed}
 -- an end that waits is not up, and its early state is that

@@ -1,4 +1,4 @@
--- TODO
+-- What an entry does to the fabric, once for all events: six kinds of change; which message makes it, and what stands newly after it.
 mod Entries
 mod NewLinks
 mod OneActs

@@ -1,4 +1,4 @@
--- TODO
+-- What an entry does to the keys of a side and to what a side has learnt, once for all events; and what is true of keys over every list of entries.
 mod Apart
 mod BookEntries
 mod BookLists
@@ -79,9 +79,9 @@ pub use Rattle.link_laws.proofs.Keys.Lists.{registers-are}
 pub use Rattle.link_laws.proofs.Keys.Lists.{keeps-use}
 -- a key stays, where a link of its slot is its own
 pub use Rattle.link_laws.proofs.Keys.Lists.{keeps-key}
--- TODO among-map
-pub use Rattle.link_laws.proofs.Keys.Range.{among-map}
 -- over every history in which what is registered is in range
 pub use Rattle.link_laws.proofs.Keys.Range.{keys-in}
+-- a list that is mapped keeps what is in it
+pub use Rattle.link_laws.proofs.Keys.Range.{among-map}
 -- all events together
 pub use Rattle.link_laws.proofs.Keys.WantedFrom.{wanted-from}

@@ -1,4 +1,4 @@
--- TODO
+-- Links over every history: what stood stands or was lost, a live link stays live or is lost, and how the group of a side changes.
 mod EachEntry
 mod Fates
 mod GroupChanges
@@ -12,25 +12,16 @@ pub use Rattle.link_laws.proofs.Lasting.EachEntry.{free-among}
 pub use Rattle.link_laws.proofs.Lasting.EachEntry.{entered}
 -- phases change: the live links followed by fates are those of the new table
 pub use Rattle.link_laws.proofs.Lasting.Fates.{live-mapped}
--- TODO live-made
-pub use Rattle.link_laws.proofs.Lasting.Fates.{live-made}
 -- no link of a group is live
 pub use Rattle.link_laws.proofs.Lasting.Fates.{NoneLiveOf}
--- TODO other-group
-pub use Rattle.link_laws.proofs.Lasting.Fates.{other-group}
--- TODO none-live-stands
-pub use Rattle.link_laws.proofs.Lasting.Fates.{none-live-stands}
 -- then there is no live link after fates where there was none before
 pub use Rattle.link_laws.proofs.Lasting.Fates.{live-none}
+-- live links after a link is made, and in groups that are over
+pub use Rattle.link_laws.proofs.Lasting.Fates.{live-made, other-group, none-live-stands}
 -- how a table changes while the group stays
-pub use Rattle.link_laws.proofs.Lasting.GroupChanges.{Changed}
-pub use Rattle.link_laws.proofs.Lasting.GroupChanges.{ByPhase}
-pub use Rattle.link_laws.proofs.Lasting.GroupChanges.{ByPut}
+pub use Rattle.link_laws.proofs.Lasting.GroupChanges.{Changed, ByPhase, ByPut}
 -- what an entry does to a side
-pub use Rattle.link_laws.proofs.Lasting.GroupChanges.{Shape}
-pub use Rattle.link_laws.proofs.Lasting.GroupChanges.{Stays}
-pub use Rattle.link_laws.proofs.Lasting.GroupChanges.{EndsHere}
-pub use Rattle.link_laws.proofs.Lasting.GroupChanges.{Starts}
+pub use Rattle.link_laws.proofs.Lasting.GroupChanges.{Shape, Stays, EndsHere, Starts}
 -- after any entry
 pub use Rattle.link_laws.proofs.Lasting.GroupChanges.{shapes}
 -- a link is that of its slot, and live
@@ -47,9 +38,9 @@ pub use Rattle.link_laws.proofs.Lasting.Links.{turns}
 pub use Rattle.link_laws.proofs.Lasting.Links.{lasts-with}
 -- a link that stands has stood
 pub use Rattle.link_laws.proofs.Lasting.Links.{stands-known}
--- r3, first half: a link that ever stood stands at a side, or was lost there
+-- a link that ever stood stands at a side, or was lost there
 pub use Rattle.link_laws.proofs.Lasting.Links.{stands-or-lost}
 -- `again`
 pub use Rattle.link_laws.proofs.Lasting.Links.{none-again}
--- r3: the latest link of a slot, and each that ever stood, stands at a side and was not lost there, or was lost there and does not stand
+-- the latest link of a slot, and each that ever stood, stands at a side and was not lost there, or was lost there and does not stand
 pub use Rattle.link_laws.proofs.Lasting.Made.{one-of-both}

@@ -1,4 +1,4 @@
--- TODO
+-- The key flow of a side and its test of each slot, through every event: at most one message of it is under way on links that are not dead, and it fits.
 mod KeyLandings
 mod KeyPosts
 mod KeySteps

@@ -1,4 +1,4 @@
--- TODO
+-- The messages of the link flow under way on links that are not dead, through every event; and with it the whole step of links and flows.
 mod AnyKind
 mod Asks
 mod Carried

@@ -1,4 +1,4 @@
--- TODO
+-- The end for which a first link goes live waits for it.
 mod Awaits
 mod ComingUp
 mod FirstWaits

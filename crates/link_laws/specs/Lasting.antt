@@ -23,7 +23,7 @@ abbrev pub has_stood : LinkId → List Entry → Bool
 has_stood link [] = false
 has_stood link (e ∷ older) = (stands link (table_of A (e ∷ older)) || stands link (table_of B (e ∷ older))) || has_stood link older
 
--- of links: one that stands was not lost (`again` of `OwedPlain`)
+-- of links: one that stands was not lost
 pub record NoneAgain (past : List Entry) : Type 0 where
   pub again : (x : Side) (link : LinkId) → stands link (table_of x past) ≡ true → is_lost x link past ≡ false
 

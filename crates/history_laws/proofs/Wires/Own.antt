@@ -30,6 +30,6 @@ is-or-not x token (Cdc from link m) = by (same_side x from && (token == m.token)
     by true e = Is m e (ap (λ c. if_meant c m) e)
     by false e = IsNot e (ap (λ c. if_meant c m) e)
 
--- the group of an offered connection is the one group
+-- the group of an offered connection
 abbrev pub group_by : Option Offered → ℕ
 group_by q = unwrap_or (option_map (λ (link : LinkId). link.group) (option_map (λ (o : Offered). o.link) q)) 0

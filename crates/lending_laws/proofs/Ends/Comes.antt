@@ -201,7 +201,7 @@ pub live-or-lost : (e : Entry) (past : List Entry) → Entered e past → (x : S
 live-or-lost e past it x link (inl l) = inl (or-true (stands link (table_of x past) && not (stands link (table_of x (e ∷ past)))) (is_lost x link past) l)
 live-or-lost e past it x link (inr l) = lasts-with e past it x link l
 
--- r4: the link that an Accept of later contact names is live, or was lost, at either side
+-- the link that an Accept of later contact names is live, or was lost, at either side
 pub later-live : (setup : Setup) (payload : List ℕ) (past : List Entry) → IsMadeAll setup payload past → AllFlows setup payload past → (s : ℕ) (o : Offered) → offered B s past ≡ Some o → o.offer.first ≡ false → (x : Side) → IsLiveOrLost x o.link past
 later-live setup payload [] m flows s o i f x = absurd (none-is o i)
 later-live setup payload (e ∷ past) m flows s o i f x = live-or-lost e past it x o.link (by (new-or-old setup payload past m.0.0 e m.0.1 (states setup payload past m.1) (all-offers setup payload past m.1) B s) (λ j. later-live setup payload past m.1 flows.1 s o j f x))
@@ -232,7 +232,7 @@ later-live setup payload (e ∷ past) m flows s o i f x = live-or-lost e past it
         let link : o.link ≡ fewest setup payload past = ap (λ (r : Offered). r.link) mine ∙ (n.link_is refl ∙ ap (λ b. accept_link setup payload b past) first) in
         subst (λ l. IsLiveOrLost x l past) (sym link) (at (fewest setup payload past) live x)
 
--- r5: in first contact an end comes up on a link that is live at its side after the entry
+-- in first contact an end comes up on a link that is live at its side after the entry
 pub first-live : (e : Entry) (past : List Entry) → Entered e past → (x : Side) (s : ℕ) (link : LinkId) → first_up x s e past ≡ Some link → has_link link (live_links (table_of x (e ∷ past))) ≡ true
 first-live e past it x s link u = by (act_in x e past) refl u
   where

@@ -154,7 +154,7 @@ pub own-all : (setup : Setup) (payload : List ℕ) (past : List Entry) → AllFl
 own-all setup payload [] flows = tt
 own-all setup payload (e ∷ past) flows = (let h = flows.0.0 in h.linked.own B, own-all setup payload past flows.1)
 
--- r6: an end comes up while its side is in the group of the offer
+-- an end comes up while its side is in the group of the offer
 pub up-in-group : (setup : Setup) (payload : List ℕ) (e : Entry) (past : List Entry) → IsMadeAll setup payload (e ∷ past) → Entered e past → (x : Side) (s : ℕ) (link : LinkId) → comes_up x s e past ≡ Some link → (o : Offered) × ((offered B s past ≡ Some o) × (group_of x past ≡ o.link.group))
 up-in-group setup payload e past m it x s link u = by-kind setup payload e past m s ((o : Offered) × ((offered B s past ≡ Some o) × (group_of x past ≡ o.link.group))) x link u
     (λ ev r n. let o = later-offer setup payload e past m x s ev r in (o.0, (o.1.0, sym o.1.1.1)))

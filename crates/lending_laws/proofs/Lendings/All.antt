@@ -1,4 +1,4 @@
--- What lendings want of the handshake follows from what an entry makes: so T1 to T4 and G2 stand on five short premises of other subjects.
+-- What lendings want of the handshake follows from what an entry makes: so the laws of lendings stand on five short premises of other subjects.
 use Rattle.std.proofs.Common.{Bool, List, [], ap, eq-eqb, false, if◌then◌else◌, inl, inr, refl, sym, true, true≢false, ℕ, ◌==◌, ◌||◌, ◌∙◌, ◌∷◌, ◌≡◌, ◌⊎◌}
 use Rattle.pipe_model.specs.Fallback.{front_of_posts, opens}
 use Rattle.std.specs.Prelude.{Some, is_some, option_map, unwrap_or}
@@ -211,7 +211,7 @@ all-owed setup payload (e ∷ past) m b =
     let now = b.0 in
     (record { known = now.known; own = now.own; feasible = now.feasible; fallen = λ s. fallen-after setup payload e past m rest.0 w s (all-streams setup payload past m.1 rest.1 s) }, (rest.0, w))
 
--- T1 to T4, G2 and reuse, from five premises
+-- lendings, their end and reuse, from five premises
 module _ (setup : Setup) (payload : List ℕ) where
   pub t1-t2 : HasElements setup → (past : List Entry) → IsMadeAll setup payload past → OwedFrom setup payload past → (x : Side) → AreApart setup payload x past
   t1-t2 elements past m b x = are-apart setup elements payload past m (all-owed setup payload past m b) x

@@ -1,4 +1,4 @@
--- T1 and T2 over every history: places are in range and those of lent elements differ; what is lent is of the side's group and held by its end.
+-- Over every history places are in range and those of lent elements differ; what is lent is of the side's group and held by its end.
 use Rattle.std.proofs.Common.{Bool, List, [], ap, eq-eqb, eqb-true, false, filter_map, inl, inr, not, refl, subst, sym, true, true≢false, ℕ, ◌&&◌, ◌==◌, ◌||◌, ◌∙◌, ◌∷◌, ◌≡◌, ◌⊎◌}
 use Rattle.pipe_model.specs.declared.reply.Reply.TheVariants.{Sent}
 use Rattle.pipe_model.specs.declared.reply.SentKind.TheVariants.{Accept as AcceptSent, Confirm as ConfirmSent, ConfirmLink as LinkSent}
@@ -158,7 +158,7 @@ all-range : (setup : Setup) → HasElements setup → (payload : List ℕ) (past
 all-range setup el payload [] m w x l i = absurd i
 all-range setup el payload (e ∷ past) m w x l i = let rest = w.1 in range-after setup el payload e past m rest.1 x (all-range setup el payload past m.1 rest.1 x) l i
 
--- T1 and T2, after each history
+-- places, groups and ends, after each history
 pub are-apart : (setup : Setup) → HasElements setup → (payload : List ℕ) (past : List Entry) → IsMadeAll setup payload past → OwedLendings setup payload past → (x : Side) → AreApart setup payload x past
 are-apart setup el payload past m w x = record {
   in_range = all-range setup el payload past m w x;

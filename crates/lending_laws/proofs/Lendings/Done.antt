@@ -1,4 +1,4 @@
--- T3 and T4 over every history: each lending is lent or has returned, an end that still holds its element has it lent, and what is not lent is done with.
+-- Over every history each lending is lent or has returned, an end that still holds its element has it lent, and what is not lent is done with.
 use Rattle.std.proofs.Common.{Bool, List, [], ap, false, filter_map, inl, inr, not, refl, subst, sym, true, true≢false, ℕ, ◌&&◌, ◌||◌, ◌∙◌, ◌∷◌, ◌≡◌, ◌⊎◌}
 use Rattle.std.specs.Prelude.{Some, is_some, option_map, unwrap_or}
 use Rattle.pipe_model.specs.Connections.{comes_up, token_of}
@@ -188,7 +188,7 @@ out-ended setup payload (e ∷ past) m w s o i q =
         let is : o ≡ new = some-is o new (sym i ∙ r.1) in
         ends (ap (λ c. unwrap_or (option_map (λ (l : LinkId). l.group) c) 0) (ap (λ t. named_link t past) r.0 ∙ n.named_is refl) ∙ sym (ap (λ (p : Offered). p.link.group) is)) (new-ends setup payload e past m s n r.0 q)
 
--- T4, by how a lending has ended
+-- done with, by how a lending has ended
 module _ (setup : Setup) (payload : List ℕ) (past : List Entry) (m : IsMadeAll setup payload past) (w : OwedLendings setup payload past) where
   out-gone : (y : Side) (s : ℕ) → is_out (end_state y s past) ≡ true → is_gone y s past ≡ true
   out-gone y s o = or-true (told_last y (token_of (other y) s past) past) (is_out (end_state y s past) || has_ended y (group_on s past) past) (or-left (is_out (end_state y s past)) (has_ended y (group_on s past) past) o)
@@ -227,7 +227,7 @@ module _ (setup : Setup) (payload : List ℕ) (past : List Entry) (m : IsMadeAll
           at o is (inl a) = both-done B l (out-gone A l.s a) (out-gone B l.s p)
           at o is (inr g) = or-true (is_gone A l.s past && is_gone B l.s past) (has_ended B l.group past) (ap (λ (k : Lending). has_ended B k.group past) is ∙ g)
 
-  -- T3 and T4
+  -- how lendings end
   pub are-done : (x : Side) → AreDone setup payload x past
   are-done x = record {
     returned = all-returned setup payload past m w x;

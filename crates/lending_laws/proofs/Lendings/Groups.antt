@@ -1,4 +1,4 @@
--- T2, first half: what is lent is of the side's group; an offer's group is not 0, and its packet sequence number is its group.
+-- What is lent is of the side's group; an offer's group is not 0, and its packet sequence number is its group.
 use Rattle.std.proofs.Common.{Bool, List, [], ap, arith, eq-eqb, eqb-true, false, filter, filter_map, fold, if◌then◌else◌, inl, inr, map, nat_lt, not, refl, subst, sym, true, true≢false, ℕ, ◌&&◌, ◌+◌, ◌==◌, ◌||◌, ◌∙◌, ◌∷◌, ◌≡◌, ◌≢◌, ◌⊎◌}
 use Rattle.pipe_model.specs.declared.reply.Hold.TheVariants.{AddLink as AddLinkHold, ConfirmRkey as ConfirmRkeyHold, DeleteRkey as DeleteRkeyHold, FirstContact as FirstContactHold}
 use Rattle.pipe_model.specs.declared.reply.Lack.TheVariants.{Raw as RawLack}
@@ -203,7 +203,7 @@ module _ (setup : Setup) (payload : List ℕ) (past : List Entry) (before : ℕ)
       by (OffersConfirm c) A j = let n = confirm-new setup payload past before e made st off c in one n.link n.s (new_offer setup payload A n.first n.link past) A (confirm-fits c) (in-new setup payload past before e made st off A n l j)
       by (OffersConfirm c) B j = absurd (subst (λ ls. IsAmong l ls) (ap (λ ps. filter_map (lends B) ps) c.posts_are ∙ free-lends-all B c.more (data-free c.more c.plain)) j)
 
-  -- T2, first half: what is lent is of the side's group
+  -- what is lent is of the side's group
   pub group-after : (x : Side) → ((l : Lending) → IsAmong l (lent setup payload x past) → (l.group ≡ group_of x past) × ((l.group == 0) ≡ false)) → (l : Lending) → IsAmong l (lent setup payload x (e ∷ past)) → (l.group ≡ group_of x (e ∷ past)) × ((l.group == 0) ≡ false)
   group-after x was l i = (let c = changes setup payload past before e made st off x in by (c.was l i))
     where

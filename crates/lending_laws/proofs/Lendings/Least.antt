@@ -305,11 +305,11 @@ from-least setup payload (e ∷ past) m w =
     let rest = w.1 in
     (record { known = all-known setup payload (e ∷ past) m (all-with setup payload (e ∷ past) w); own = now.own; feasible = now.feasible }, (with-least setup payload e past m rest.0, from-least setup payload past m.1 rest.1))
 
--- G2 from the least, as the law of an entry says it
+-- an element is lent again only when it is done with, from the least that is owed
 pub relending : (setup : Setup) (payload : List ℕ) (e : Entry) (past : List Entry) (x : Side) → HasElements setup → IsMadeAll setup payload (e ∷ past) → OwedLeast setup payload past → IsLent x e past
 relending setup payload e past x elements m w = g2 setup payload elements e past m (from-least setup payload past m.1 w) x
 
--- T1 to T4 from the least
+-- lendings are apart, held and done with, from the least that is owed
 pub lending-laws : (setup : Setup) (payload : List ℕ) (past : List Entry) (x : Side) → HasElements setup → IsMadeAll setup payload past → OwedLeast setup payload past → AreLendings x past × (AreApart setup payload x past × AreDone setup payload x past)
 lending-laws setup payload past x elements m w = (all-lendings setup payload past m x, (t1-t2 setup payload elements past m (from-least setup payload past m w) x, t3-t4 setup payload past m (from-least setup payload past m w) x))
 

@@ -1,4 +1,4 @@
--- T5: when the end of a lending is over, both ends of its connection have posted their last snapshot, each under its peer's token.
+-- When the end of a lending is over, both ends of its connection have posted their last snapshot, each under its peer's token.
 use Rattle.std.proofs.Common.{List, [], ap, append-nil, false, filter_map, inl, inr, refl, subst, sym, true, true≢false, ℕ, ◌++◌, ◌==◌, ◌||◌, ◌∙◌, ◌∷◌, ◌≡◌, ◌⊎◌}
 use Rattle.std.specs.Prelude.{None, Option, Some, is_some, option_map, unwrap_or}
 use Rattle.pipe_model.specs.Connections.{comes_up}
@@ -174,7 +174,7 @@ pub has-told : (setup : Setup) (payload : List ℕ) (past : List Entry) → IsMa
 has-told setup payload [] m w y s last = absurd (true≢false (sym (last-up (terms_of setup) y payload (group_on s []) s [] last)))
 has-told setup payload (e ∷ past) m w y s last = let rest = w.1 in told-step setup payload e past m w y s (has-told setup payload past m.1 rest.1 y s) last
 
--- T5: an end that is over
+-- an end that is over
 pub over-told : (setup : Setup) (payload : List ℕ) (past : List Entry) → IsMadeAll setup payload past → OwedLendings setup payload past → (x : Side) (s : ℕ) → is_over (half x (pipe_of setup payload (group_on s past) s past)) ≡ true → HaveToldLast s past
 over-told setup payload past m w x s over =
     let now = owed-now setup payload past w in

@@ -1,4 +1,4 @@
--- G2 over every history: an element is lent only where it is the lowest free one, so each earlier lending of it is done with.
+-- Over every history an element is lent only where it is the lowest free one, so each earlier lending of it is done with.
 use Rattle.std.proofs.Common.{Bool, List, [], ap, arith, eqb-true, false, filter, filter_map, flat_map, inl, inr, length, map, not, refl, subst, suc, sym, true, true≢false, zero, ℕ, ◌++◌, ◌==◌, ◌||◌, ◌∙◌, ◌∷◌, ◌≡◌, ◌≤◌, ◌⊎◌}
 use Rattle.std.specs.Prelude.{All, IsTrue, unwrap_or}
 use Rattle.std.proofs.lemmas.List.Elements.{All-cons, All-nil}
@@ -24,7 +24,7 @@ pub all-of : {X : Type 0} (P : X → Type 0) (xs : List X) → ((x : X) → IsAm
 all-of P [] f = All-nil P
 all-of P (x ∷ xs) f = All-cons P x xs (f x (inl refl)) (all-of P xs (λ y i. f y (inr i)))
 
--- T2, first half, after each history: what is lent is of the side's group
+-- after each history what is lent is of the side's group
 pub all-groups : (setup : Setup) (payload : List ℕ) (past : List Entry) → IsMadeAll setup payload past → OwedLendings setup payload past → (x : Side) (l : Lending) → IsAmong l (lent setup payload x past) → (l.group ≡ group_of x past) × ((l.group == 0) ≡ false)
 all-groups setup payload [] m w x l i = absurd i
 all-groups setup payload (e ∷ past) m w x l i =
@@ -121,7 +121,7 @@ module _ (setup : Setup) (elements : HasElements setup) (payload : List ℕ) (e 
           let n = confirm-new setup payload past one.0 e one.1 st off c in
           placed A (next_free setup payload A past) (ap (λ (k : Lending). k.place) (in-new setup payload past one.0 e one.1 st off A n l j) ∙ new-place setup payload A n.s n.first n.link past) (is-next A (confirm-free c))
 
-  -- G2: each earlier lending of the same element is done with
+  -- each earlier lending of the same element is done with
   relent : (x : Side) (l : Lending) → IsAmong l (filter_map (lends x) e.posts) → IsRelent x l past
   relent x l i = all-of (λ k. IsTrue (is_done_with x k past)) (filter (λ k. same_place l.place k.place) (lendings x past)) (λ k j.
       let q = in-filter (λ k. same_place l.place k.place) k (lendings x past) j in

@@ -1,4 +1,4 @@
--- G1, reuse: once a lending has ended while its group stands, no link that the peer has not lost carries bytes of its connection.
+-- Once a lending has ended while its group stands, no link that the peer has not lost carries bytes of its connection.
 use Rattle.std.proofs.Common.{Bool, List, [], ap, drop, eq-eqb, eqb-true, false, if◌then◌else◌, inl, inr, nat_le, refl, subst, suc, sym, true, true≢false, zero, ℕ, ◌%◌, ◌++◌, ◌+◌, ◌-◌, ◌==◌, ◌∙◌, ◌∷◌, ◌≡◌, ◌⊎◌}
 use Rattle.pipe_model.specs.Parts.{CarriesNone}
 use Rattle.pipe_model.specs.declared.sent.Sent.{Sent}
@@ -74,7 +74,7 @@ module _ (setup : Setup) (payload : List ℕ) (past : List Entry) (m : IsMadeAll
           at o is (inl a) = none-under-way (half A (pipe_of setup payload (group_on l.s past) l.s past)) (quiet (terms_of setup) A payload (group_on l.s past) l.s past (out-down A l.s a))
           at o is (inr g) = absurd (true≢false (sym (ap (λ (c : Lending). has_ended B c.group past) is ∙ g) ∙ k))
 
-  -- G1, reuse
+  -- no bytes come after a lending
   pub no-bytes : AreCarriedOn setup payload past → (y : Side) (l : Lending) → IsAmong l (lendings y past) → (IsAmong l (lent setup payload y past) → ⊥) → has_ended y l.group past ≡ false
       → (link : LinkId) → is_lost (other y) link past ≡ false → CarriesNoBytes (element_size setup) link (other y) l past
   no-bytes carried y l i gone stands link kept =

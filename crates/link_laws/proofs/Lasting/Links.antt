@@ -266,7 +266,7 @@ stands-known y link [] s = absurd (true≢false (sym s ∙ none y))
 stands-known A link (e ∷ past) s = or-left (stands link (table_of A (e ∷ past)) || stands link (table_of B (e ∷ past))) (has_stood link past) (or-left (stands link (table_of A (e ∷ past))) (stands link (table_of B (e ∷ past))) s)
 stands-known B link (e ∷ past) s = or-left (stands link (table_of A (e ∷ past)) || stands link (table_of B (e ∷ past))) (has_stood link past) (or-true (stands link (table_of A (e ∷ past))) (stands link (table_of B (e ∷ past))) s)
 
--- r3, first half: a link that ever stood stands at a side, or was lost there
+-- a link that ever stood stands at a side, or was lost there
 pub stands-or-lost : (setup : Setup) (payload : List ℕ) (past : List Entry) → IsMadeAll setup payload past → AllFlows setup payload past → (x : Side) (link : LinkId) → has_stood link past ≡ true → StandsOrLost x link past
 stands-or-lost setup payload [] all flows x link h = absurd (true≢false (sym h))
 stands-or-lost setup payload (e ∷ past) all flows x link h = known-with e past (entered setup payload e past all flows) x link (stands-or-lost setup payload past all.1 flows.1 x link) (λ y. stands-known y link past) h
@@ -285,7 +285,7 @@ lost-made setup payload (e ∷ past) all flows x link h = by (entered setup payl
         grown : link.incarnation ≤ made_on link.slot (fabric past) → link.incarnation ≤ made_on link.slot (fabric (e ∷ past))
         grown a = let b : made_on link.slot (fabric past) ≤ made_on link.slot (fabric (e ∷ past)) = it.grows.rises link.slot in omega (arith, a, b)
 
--- r3, second half: a link that stands was not lost
+-- a link that stands was not lost
 pub not-lost : (setup : Setup) (payload : List ℕ) (past : List Entry) → IsMadeAll setup payload past → AllFlows setup payload past → (x : Side) (link : LinkId) → stands link (table_of x past) ≡ true → is_lost x link past ≡ false
 not-lost setup payload [] all flows x link s = refl
 not-lost setup payload (e ∷ past) all flows x link s = by (entered setup payload e past all flows) (not-lost setup payload past all.1 flows.1 x link) (lost-made setup payload past all.1 flows.1 x link)

@@ -1,4 +1,4 @@
--- A link that was ever made has stood at a side: so r3 holds of every link that was ever the latest of its slot.
+-- A link that was ever made has stood at a side: so each link that was ever the latest of its slot stands at a side or was lost there.
 use Rattle.std.proofs.Common.{List, Some, [], ap, false, if◌then◌else◌, inl, inr, refl, subst, sym, true, true≢false, ℕ, ◌+◌, ◌==◌, ◌||◌, ◌∙◌, ◌∷◌, ◌≡◌, ◌⊎◌}
 use Rattle.pipe_model.specs.Fabric.{does}
 use Rattle.pipe_model.specs.declared.flow.FlowStep.TheVariants.{Live}
@@ -58,7 +58,7 @@ latest-stood (e ∷ past) l at = elim (comes-with e past l at) [
   | inr s ↦ stands-known A l (e ∷ past) s
 ]
 
--- r3: the latest link of a slot, and each that ever stood, stands at a side and was not lost there, or was lost there and does not stand
+-- the latest link of a slot, and each that ever stood, stands at a side and was not lost there, or was lost there and does not stand
 pub one-of-both : (setup : Setup) (payload : List ℕ) (past : List Entry) → IsMadeAll setup payload past → AllFlows setup payload past → (x : Side) (link : LinkId) → has_stood link past ≡ true
     → ((stands link (table_of x past) ≡ true) × (is_lost x link past ≡ false)) ⊎ ((stands link (table_of x past) ≡ false) × (is_lost x link past ≡ true))
 one-of-both setup payload past m flows x link h = elim (stands-or-lost setup payload past m flows x link h) [
