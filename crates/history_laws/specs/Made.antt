@@ -1,0 +1,15 @@
+-- Lendings over every history: what an entry does to them, how they end, and what other subjects owe to that.
+use Rattle.std.specs.Prelude.{List, [], ℕ, ◌∷◌, ◌≡◌}
+use Rattle.pipe_model.specs.Replies.{told}
+use Rattle.pipe_model.specs.Lawful.{posted}
+use Rattle.history_laws.specs.Words.{Entry, Setup, reply_of}
+
+-- that an entry has the reply and the posts that the definitions give, whatever its event
+pub record IsMadeAny (setup : Setup) (payload : List ℕ) (past : List Entry) (before : ℕ) (e : Entry) : Type 0 where
+  pub reply : e.reply ≡ reply_of before (told setup payload past e.event)
+  pub posts : e.posts ≡ posted setup payload past before e.event
+
+-- each entry has the reply and the posts that the definitions give
+abbrev pub IsMadeAll : Setup → List ℕ → List Entry → Type 0
+IsMadeAll setup payload [] = Unit {0}
+IsMadeAll setup payload (e ∷ past) = ((before : ℕ) × IsMadeAny setup payload past before e) × IsMadeAll setup payload past

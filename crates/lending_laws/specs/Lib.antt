@@ -1,0 +1,9 @@
+pub mod Asked
+pub mod BoundKeys
+pub mod Ends
+pub mod KeyGroups
+pub mod Lendings
+pub mod Owed
+pub mod OwedKeys
+pub mod Reuse
+pub mod Tokens

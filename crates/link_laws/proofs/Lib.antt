@@ -1,0 +1,9 @@
+pub mod Contact
+pub mod Fabric
+pub mod Joined
+pub mod Keys
+pub mod Lasting
+pub mod Requests
+pub mod Sound
+pub mod UnderWay
+pub mod Waiting

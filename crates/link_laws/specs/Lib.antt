@@ -1,0 +1,16 @@
+pub mod Awaited
+pub mod Contact
+pub mod Covered
+pub mod FabricChanges
+pub mod Joined
+pub mod KeyChanges
+pub mod KeyFlows
+pub mod KeyRange
+pub mod Lasting
+pub mod Learnt
+pub mod Linked
+pub mod Moves
+pub mod Offered
+pub mod Owed
+pub mod TestFlows
+pub mod UnderWay
