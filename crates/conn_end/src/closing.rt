@@ -1,7 +1,7 @@
 //! How an end closes (RFC 7609, section 4.8): the table of its phases, and what a phase says.
 ghost use Rattle.std.specs.Prelude.{◌≡◌, ◌<◌, ℕ, List};
 ghost use Rattle.pipe_model.specs.Calls.{Plain};
-ghost use Rattle.pipe_model.specs.Closing.{cause_of as cause_at, is_closing, is_finished, is_group_gone, after_posting, after_completing, after_moving, ended_with};
+ghost use Rattle.pipe_model.specs.Closing.{cause_of as cause_at, is_closing, is_finished, is_group_gone, after_posting, after_completing, after_moving, ended_with, may_move};
 ghost use Rattle.conn_end.specs.Table.{state_of as state_at, place_of, cause_in, after_action, told_by, after_step, step_told};
 ghost use Rattle.conn_end.specs.Told.{told_of};
 
@@ -285,4 +285,14 @@ pub(crate) fn on_move(phase: Phase) -> Phase
         Phase::AbortPosted(cause) => Phase::Resetting(cause),
         _ => phase,
     }
+}
+
+/// Whether an end may leave its link: its own last snapshot has not completed, and its group stands.
+pub(crate) fn may_move(phase: Phase) -> bool
+    ensures { result ≡ may_move phase }
+{
+    !matches!(
+        phase,
+        Phase::CloseDone | Phase::AbortDone(_) | Phase::GroupGone(_)
+    )
 }

@@ -3,7 +3,7 @@
 //! Each contract speaks of any end that has come so far.
 ghost use Rattle.std.specs.Prelude.{◌≡◌, ◌<◌, ◌≤◌, ◌^◌, ◌&&◌, if◌then◌else◌, ◌++◌, ◌∷◌, [], ℕ, false, not, nat_lt, List, length, drop, IfOk};
 ghost use Rattle.pipe_model.specs.Snapshot.{tells_same};
-ghost use Rattle.pipe_model.specs.Closing.{cause_of as cause_in, is_group_gone, ended_with, after_posting, after_completing, after_moving};
+ghost use Rattle.pipe_model.specs.Closing.{cause_of as cause_in, is_group_gone, ended_with, after_posting, after_completing, after_moving, may_move};
 ghost use Rattle.smc_num.specs.Names.{head};
 ghost use Rattle.pipe_model.specs.Words.{is_nil};
 ghost use Rattle.pipe_model.specs.Ends.{Half, fresh, present, check, takes_snapshot, validates, strikes};
@@ -15,8 +15,8 @@ ghost use Rattle.conn_end.specs.Table.{after_step, told_step};
 
 use crate::answers::{EndReply, Taken};
 use crate::closing::{
-    ClosingTable, Step, cause_of, closing, finished, group_gone, on_completion, on_group_end,
-    on_move, on_posting,
+    ClosingTable, Step, cause_of, closing, finished, group_gone, may_move, on_completion,
+    on_group_end, on_move, on_posting,
 };
 use crate::spelling::{first, same_told, wire};
 use circular_buffer::HeapCircularBuffer;
@@ -313,6 +313,13 @@ impl Course {
         self.last = self.fin;
         self.flight.clear();
         self.phase = on_move(self.phase);
+    }
+
+    /// Whether it may leave its link.
+    pub(crate) fn may_move(&self) -> bool
+        ensures { result ≡ may_move self.now.phase }
+    {
+        may_move(self.phase)
     }
 
     /// Whether no snapshot is uncompleted.

@@ -15,6 +15,7 @@ ghost use Rattle.cdc_ring.specs.Kept.{StandsFor as RingStandsFor};
 ghost use Rattle.pipe_model.specs.declared.reply.ResetCause.TheVariants.{NoLiveLink};
 ghost use Rattle.pipe_model.specs.declared.sent.Sent.{Sent};
 ghost use Rattle.pipe_model.specs.Ends.{Half, fresh, present as present_of, is_over, is_due_for_move, loses_group, strikes, takes, completes, moves, posts_batch, settle};
+ghost use Rattle.pipe_model.specs.Closing.{may_move};
 ghost use Rattle.pipe_model.specs.Calls.{Writes, Reads, Finishes, Closes, Aborts, calls};
 ghost use Rattle.conn_end.specs.Kept.{StandsFor, SameTerms, IsNew};
 ghost use Rattle.conn_end.specs.Told.{Answers, finds, wrote_told};
@@ -250,6 +251,14 @@ impl ConnEnd {
         self.owes_check = true;
         self.ring.rewind();
         self.course.leave();
+    }
+
+    /// Whether it may move, where it is established and its link isn't live: its own closed or aborted
+    /// snapshot has not completed, and its group has not ended.
+    pub fn may_move(&self) -> bool
+        ensures { (h : Half) → StandsFor self.now h → result ≡ may_move h.phase }
+    {
+        self.course.may_move()
     }
 
     /// What it posts now, where `live` says whether its link is live at its side: the validation

@@ -201,6 +201,7 @@ fn a_full_flight_waits_and_an_abort_tells_no_more_bytes(rt: HostRuntime) -> Resu
         assert_eq!(rt; run(&rt, &mut end, does), gives, "{does:?}");
     }
     assert!(rt; end.idle() && end.told_end() && !end.peer_end());
+    assert!(rt; !end.may_move());
     assert_eq!(rt; end.last().number, 3);
     assert_eq!(rt; kept(&rt, &end, 4), (4, Some(1)));
     Ok(())
@@ -237,6 +238,7 @@ fn bytes_are_handed_out_until_a_gap_is_found(rt: HostRuntime) -> Result<(), Fail
         assert_eq!(rt; run(&rt, &mut end, does), gives, "{does:?}");
     }
     assert!(rt; !end.idle() && !end.peer_done() && !end.peer_closed());
+    assert!(rt; end.may_move());
     Ok(())
 }
 
