@@ -15,7 +15,7 @@ ghost use Rattle.pipe_model.specs.declared.event.Event.{Event as Asked};
 ghost use Rattle.pipe_model.specs.declared.event.Event.TheVariants.{Deliver};
 ghost use Rattle.pipe_model.specs.History.{post_at};
 ghost use Rattle.pipe_model.specs.Keys.{AreBound, keys_of, no_keys};
-ghost use Rattle.pipe_model.specs.Lending.{IsLent};
+ghost use Rattle.pipe_model.specs.Lending.{RelendsOnlyDone};
 ghost use Rattle.pipe_model.specs.Home.{LandsHome, IsHome, following_cdc};
 ghost use Rattle.pipe_model.specs.Lawful.{IsLawfulPast, claims_bytes};
 ghost use Rattle.pipe_model.specs.declared.reply.Lack.{Lack};
@@ -49,7 +49,7 @@ pub fn no_end_is_reset()
 /// No element is lent again before each earlier connection that it was lent to is done with.
 pub fn no_element_is_lent_again_too_early()
     ensures { (setup : Conditions) → IsOneLink setup → (payload : List ℕ) (e : Record) (past : List Record) (n : ℕ)
-        → IsPlayed setup payload (e ∷ past) n → (x : Peer) → IsLent x e past }
+        → IsPlayed setup payload (e ∷ past) n → (x : Peer) → RelendsOnlyDone x e past }
 {}
 
 /// Each write that waits to land goes into the element that the peer offered to its connection, under
