@@ -141,12 +141,12 @@ module _ (e : Entry) (past : List Entry) (j : ℕ) (owed : OwedByFlows e past) w
     where
       told : P (does B l m SendKeys f)
       told A k at w = WasWanted at w
-      told B k at w = elim (or-parts (is_live (phase_at j f.b.table)) (flow_slot f.b.flow.link == j) w) [
+      told B k at w = elim (or-parts (is_live (phase_at j f.b.table)) (named_slot m l.slot == j) w) [
         | inl h ↦ WasWanted at (or-left (is_live (phase_at j f.b.table)) (is_keyed j f.b.flow.link) h)
-        | inr h ↦ NowTold (record { act = record { link = l; message = m; step = SendKeys }; is = is; does = refl }) (s ∙ eqb-true (flow_slot f.b.flow.link) j h)
+        | inr h ↦ NowTold (record { act = record { link = l; message = m; step = SendKeys }; is = is; does = refl }) (eqb-true (named_slot m l.slot) j h)
       ]
   taken-b l m Over is s = flow-b _ never
-  taken-b l m AskLink is s = flow-b _ (λ h. ap (λ k. is_keyed j k) s.1.1 ∙ (ap (λ k. flow_slot k == j) (sym s.1.1) ∙ h))
+  taken-b l m AskLink is s = flow-b _ (λ h. ap (λ k. is_keyed j k) s.1 ∙ h)
   taken-b l m (ReplyKeys known) is s = flow-b _ (λ h. h)
   taken-b l m (ReplyAdd again) is s = absurd s
   taken-b l m Reject is s = flow-b _ (λ h. h)
