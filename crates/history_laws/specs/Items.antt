@@ -1,5 +1,4 @@
--- One wire beside the private pipes of the connections that share it.
--- A reader learns here which CDC messages on a wire are those of an end, what its pipe has under way, and when the two agree.
+-- What items of a connection pass a test.
 use Rattle.std.specs.Prelude.{Bool, List, [], true, ◌∷◌, ◌≡◌}
 use Rattle.history_laws.specs.Words.{Item}
 

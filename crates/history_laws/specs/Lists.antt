@@ -1,4 +1,4 @@
--- Lists of keys, and what an entry of a history may do to the keys of a side: each change with the message that makes it.
+-- What stands in a list.
 use Rattle.std.specs.Prelude.{List, [], ◌∷◌, ◌≡◌, ◌⊎◌}
 
 -- a thing is one of these

@@ -1,4 +1,5 @@
--- Lendings over every history: what an entry does to them, how they end, and what other subjects owe to that.
+-- What an entry offers and lends, in which states the ends of a socket are, and what stands in its streams.
+-- A reader learns here the three ways in which an entry offers, and what holds of ends and offers after every history.
 use Rattle.std.specs.Prelude.{Bool, List, None, Some, [], false, filter_map, if◌then◌else◌, not, true, unwrap_or, ℕ, ◌==◌, ◌||◌, ◌∷◌, ◌≡◌, ◌⊎◌}
 use Rattle.pipe_model.specs.declared.reply.Reply.TheVariants.{Sent}
 use Rattle.pipe_model.specs.declared.reply.SentKind.TheVariants.{Accept as AcceptSent, Confirm as ConfirmSent}
@@ -77,9 +78,13 @@ is_own_state x state = true
 -- what holds of the two ends of a socket after each history that is made by the definitions: their states are their own; where
 -- there is one, the socket was opened or is raw, and it was opened where A has one; and no socket is both
 pub record HasStates (s : ℕ) (past : List Entry) : Type 0 where
+  -- Clc: what an end becomes is one of its side
   pub own : (x : Side) → is_own_state x (early_state x s past) ≡ true
+  -- Raw begins the end of B alone
   pub begun : (x : Side) → is_none (early_state x s past) ≡ false → (is_opened s past || is_raw s past) ≡ true
+  -- Open begins both ends
   pub opened : is_none (early_state A s past) ≡ false → is_opened s past ≡ true
+  -- Open under the name of a raw client, and Raw under that of an open socket, begin nothing
   pub apart : is_opened s past ≡ true → is_raw s past ≡ false
 
 -- what an entry makes a side lend: one element, for a socket on which the side had not offered, and has gone on from there
@@ -106,9 +111,13 @@ pub data Begins (setup : Setup) (payload : List ℕ) (x : Side) (e : Entry) (pas
 -- what holds of the offers on a socket: an end that has offered is past the states in which it may; an Accept and a Confirm under
 -- way are the offers that were made; and A has offered only where B has
 pub record HasOffers (s : ℕ) (past : List Entry) : Type 0 where
+  -- Clc: an end that offers goes on from there
   pub later : (x : Side) (o : Offered) → offered x s past ≡ Some o → is_early (end_state x s past) ≡ false
+  -- Clc: what stands in the stream is B's own Accept
   pub accepted : (o : Offer) → IsAmong (AcceptMessage o) (untaken B s past) → (link : LinkId) × (offered B s past ≡ Some (record { link = link; offer = o }))
+  -- Clc: what stands in the stream is A's own Confirm
   pub confirmed : (o : Offer) → IsAmong (ConfirmMessage o) (untaken A s past) → (link : LinkId) × (offered A s past ≡ Some (record { link = link; offer = o }))
+  -- Clc: A offers as it takes B's Accept
   pub answer : offered B s past ≡ None → offered A s past ≡ None
 
 -- whether an end that has offered still holds its element: it waits for the Confirm or for its link, or is up
@@ -121,17 +130,25 @@ NoProposal ms = (p : Proposal) → IsAmong (ProposalMessage p) ms → ⊥
 
 -- that a Proposal stands first in A's stream, for which B still waits, and no other
 pub record IsProposed (s : ℕ) (past : List Entry) : Type 0 where
+  -- Clc: once B has taken it, it stands there no more
   pub early : is_early (end_state B s past) ≡ true
   pub proposal : Proposal
   pub rest : List ClcMessage
   pub stream_is : untaken A s past ≡ ProposalMessage proposal ∷ rest
+  -- Open posts one, and a socket is opened once
   pub none : NoProposal rest
 
 -- what stands in A's stream: nothing before the socket is opened, at most one Proposal, no Accept, and a Decline only once A's end is out
 pub record HasStream (s : ℕ) (past : List Entry) : Type 0 where
+  -- Deliver may establish an end, which then waited
   pub down : (x : Side) → is_none (early_state x s past) ≡ true → is_up x s past ≡ false
+  -- Open begins both ends
   pub some : is_opened s past ≡ true → is_none (early_state A s past) ≡ false
+  -- Open posts the first message
   pub unopened : is_opened s past ≡ false → untaken A s past ≡ []
+  -- Clc: B takes the Proposal
   pub shape : NoProposal (untaken A s past) ⊎ IsProposed s past
+  -- Clc: A posts a Confirm or a Decline
   pub no_accept : (o : Offer) → IsAmong (AcceptMessage o) (untaken A s past) → ⊥
+  -- Clc: A declines as it falls back
   pub declined : (r : Refusal) → IsAmong (DeclineMessage r) (untaken A s past) → (is_out (end_state A s past) ≡ true) × (is_none (early_state A s past) ≡ false)

@@ -1,5 +1,4 @@
--- When two histories show the same of links, sockets, lendings and keys.
--- A reader learns here which posts are seen by the pipes alone, and what the rest of the definitions sees.
+-- Posts by kind: those of the pipes, and those that offer nothing.
 use Rattle.std.specs.Prelude.{Bool, List, [], false, true, ◌∷◌, ◌≡◌}
 use Rattle.pipe_model.specs.declared.post.Post.TheVariants.{Clc, Write}
 use Rattle.clc_wire.specs.declared.message.ClcMessage.TheVariants.{Accept as AcceptMessage, Confirm as ConfirmMessage}

@@ -1,6 +1,4 @@
--- What holds of the links, the groups and the flows of both sides after every played history, and of the one message of the link flow
--- that is under way.
--- A reader learns here, slot by slot and flow by flow, how the two sides may differ.
+-- Tables of links whose slots rise.
 use Rattle.std.specs.Prelude.{List, [], ℕ, ◌+◌, ◌∷◌, ◌≤◌}
 use Rattle.history_laws.specs.Words.{Known}
 

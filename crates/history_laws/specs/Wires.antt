@@ -1,5 +1,5 @@
--- One wire beside the private pipes of the connections that share it.
--- A reader learns here which CDC messages on a wire are those of an end, what its pipe has under way, and when the two agree.
+-- One link beside the private pipes of the connections that share it.
+-- A reader learns here which CDC messages on a link are those of an end, what its pipe has under way, when the two agree, and how an entry moves the posts of a side there.
 use Rattle.std.specs.Prelude.{Bool, List, None, Option, Some, [], false, filter_map, if◌then◌else◌, length, map, take, true, ℕ, ◌&&◌, ◌++◌, ◌-◌, ◌==◌, ◌∷◌, ◌≡◌, ◌≤◌}
 use Rattle.pipe_model.specs.declared.sent.Sent.{Sent}
 use Rattle.pipe_model.specs.Wires.{completes_on, lands_on}
@@ -30,7 +30,9 @@ returning h = take (h.landed - h.completed) (to_complete h)
 
 -- that a wire carries, under a token, just what an end has under way
 pub record IsCarried (size : ℕ) (link : LinkId) (x : Side) (token : ℕ) (past : List Entry) (h : Half) : Type 0 where
+  -- each event in which the end posts; Deliver takes the first away
   pub landing : cdcs x token (unlanded link x past) ≡ map (message size token) (to_land h)
+  -- Deliver brings one, Complete and Swallow take the first away
   pub completing : cdcs x token (uncompleted link x past) ≡ map (message size token) (returning h)
 
 -- that of an end so many messages have landed and completed now, and that it has sent some more since

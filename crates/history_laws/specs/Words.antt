@@ -20,7 +20,7 @@ pub use Rattle.pipe_model.specs.Handshake.{first_contact_step, key_step, lacks, 
 pub use Rattle.pipe_model.specs.History.{Offered, is_cdc, next_number, numbered, offer_in, offered, offered_if, post_at}
 pub use Rattle.pipe_model.specs.Keys.{Keys, book_of, confirms, keys_of, known_rmb, named_rmbs, no_keys, token_rmb, withdraws}
 pub use Rattle.pipe_model.specs.Lawful.{act_posts, draft, front_posts, reply_of}
-pub use Rattle.pipe_model.specs.Lending.{IsLent, Lending, gives_up, is_done_with, is_out, is_over_on, leaves_handshake, lendings, lends, lends_by, lent, pipe_of, record_of, returns, terms_of, told_last}
+pub use Rattle.pipe_model.specs.Lending.{RelendsOnlyDone, Lending, gives_up, is_done_with, is_out, is_over_on, leaves_handshake, lendings, lends, lends_by, lent, pipe_of, record_of, returns, terms_of, told_last}
 pub use Rattle.pipe_model.specs.Messages.{delete_link, pair_on, proposal, refusal}
 pub use Rattle.pipe_model.specs.Parts.{EachOf, IsFeasible, IsMarked, has_last, is_broken}
 pub use Rattle.pipe_model.specs.Pipe.{Calls, Completes, Fate, GroupEnd, Item, Pipe, Terms, Up, apply, half, pipe, posts_of, step}

@@ -27,7 +27,7 @@ pub fn an_end_is_up_in_its_pipe_as_in_the_history()
     ensures { (t : Terms) (x : Side) (payload : List ℕ) (group s : ℕ) (past : List Entry) → (half x (pipe t (part payload group s past))).up ≡ is_up x s past }
 {}
 
-/// Whatever follows in a part that can be.
+/// An end that is over stays over, whatever follows in a part that can be.
 pub fn an_end_that_is_over_stays_over()
     ensures { (t : Terms) (x : Side) (news items : List Item) → IsFeasible t (news ++ items) → is_over (half x (pipe t items)) ≡ true → is_over (half x (pipe t (news ++ items))) ≡ true }
 {}

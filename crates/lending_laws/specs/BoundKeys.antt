@@ -15,12 +15,16 @@ AreFreed x past = (n : ℕ) (b : Binding) → last_binding x n past ≡ Some b �
 
 -- what lendings owe, after a history: each that isn't lent is done with, and one that is lent is of the side's group
 pub record OwedLendings (setup : Setup) (payload : List ℕ) (x : Side) (past : List Entry) : Type 0 where
+  -- Clc, Report, Deliver, Complete and Read end lendings
   pub done : (l : Lending) → IsAmong l (lendings x past) → IsAmong l (lent setup payload x past) ⊎ (is_done_with x l past ≡ true)
+  -- Clc begins a group, Report ends one
   pub group : (l : Lending) → IsAmong l (lent setup payload x past) → l.group ≡ group_of x past
 
 -- what they owe with an entry: done with stays, and no element of an RMB is lent whose keys are withdrawn
 pub record OwedLendingsWith (setup : Setup) (payload : List ℕ) (x : Side) (e : Entry) (past : List Entry) : Type 0 where
+  -- each event: what is done with stays so
   pub stays : (l : Lending) → IsAmong l (lendings x past) → is_done_with x l past ≡ true → is_done_with x l (e ∷ past) ≡ true
+  -- Deliver: the answer to DELETE RKEY withdraws the keys that Trim named
   pub idle : (t : Takes x e past Withdraw) (l : Lending) → IsAmong l (lent setup payload x past) → has l.place.rmb (named_rmbs (deleted t.act.message) (keys_of x past).keys) ≡ false
 
 -- both, after each prefix and with each entry

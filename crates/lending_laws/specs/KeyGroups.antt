@@ -11,8 +11,11 @@ AreOfGroup x past = (k : Key) → IsAmong k (keys_of x past).keys → k.link.gro
 
 -- what is owed: how the group changes, and that what is registered and learnt is of the group of afterwards
 pub record OwedByGroups (x : Side) (e : Entry) (past : List Entry) : Type 0 where
+  -- Clc begins a group, Report and Deliver end one
   pub groups : Regroups x e past
+  -- Clc, Deliver: a key is bound for a link of the group
   pub registered : (rmb : ℕ) (link : LinkId) → Registers x e past rmb link → link.group ≡ group_of x (e ∷ past)
+  -- Clc, Deliver: a key is learnt in the group of its link
   pub learnt : (k : Key) → Learns x e past k → k.link.group ≡ group_of x (e ∷ past)
 
 -- with each entry of a history

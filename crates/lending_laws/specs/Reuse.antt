@@ -1,4 +1,4 @@
--- What a wire carries of the connection of a lending that has ended: the words of the agreement of wires and pipes, and "no bytes".
+-- What a link carries of the connection of a lending that has ended: messages without bytes.
 use Rattle.std.specs.Prelude.{List, Some, false, map, ℕ, ◌≡◌}
 use Rattle.pipe_model.specs.declared.sent.Sent.{Sent}
 use Rattle.pipe_model.specs.Parts.{CarriesNone}
@@ -13,6 +13,9 @@ AreCarriedOn setup payload past = (x : Side) (s : ℕ) (o : Offered) → offered
 
 -- that what a link carries of a side under the token of a lending of its peer are messages without bytes
 pub record CarriesNoBytes (size : ℕ) (link : LinkId) (x : Side) (l : Lending) (past : List Entry) : Type 0 where
+  -- what the end had sent when it was over
   pub messages : List Sent
+  -- Deliver takes the first away
   pub on_wire : cdcs x l.token (unlanded link x past) ≡ map (message size l.token) messages
+  -- Close, Abort and Move: behind a last snapshot come last ones alone
   pub none : EachOf CarriesNone messages

@@ -6,7 +6,7 @@ ghost use Rattle.lending_laws.specs.Owed.{OwedLeast};
 ghost use Rattle.lending_laws.specs.Reuse.{AreCarriedOn, CarriesNoBytes};
 ghost use Rattle.link_laws.specs.Lasting.{is_lost};
 ghost use Rattle.pipe_model.specs.Fabric.{has_ended};
-ghost use Rattle.pipe_model.specs.Lending.{IsLent, Lending, lendings, lent, record_of};
+ghost use Rattle.pipe_model.specs.Lending.{RelendsOnlyDone, Lending, lendings, lent, record_of};
 ghost use Rattle.pipe_model.specs.Words.{element_size};
 ghost use Rattle.pipe_model.specs.declared.entry.Entry.{Entry};
 ghost use Rattle.pipe_model.specs.declared.setup.Setup.{Setup};
@@ -17,7 +17,7 @@ ghost use Rattle.std.specs.Prelude.{List, Some, false, ℕ, ◌∷◌, ◌≡◌
 
 /// An element is lent only where each earlier lending of it is done with.
 pub fn no_element_is_lent_again_too_early()
-    ensures { (setup : Setup) (payload : List ℕ) (e : Entry) (past : List Entry) (x : Side) → HasElements setup → IsMadeAll setup payload (e ∷ past) → OwedLeast setup payload past → IsLent x e past }
+    ensures { (setup : Setup) (payload : List ℕ) (e : Entry) (past : List Entry) (x : Side) → HasElements setup → IsMadeAll setup payload (e ∷ past) → OwedLeast setup payload past → RelendsOnlyDone x e past }
 {}
 
 /// Lendings are numbered and apart, what is lent is held, and what is not lent is done with.

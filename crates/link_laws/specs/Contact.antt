@@ -14,7 +14,9 @@ AreLaterIn past (m ∷ ms) = AreLaterIn past ms
 
 -- the streams of a socket hold nothing of first contact that counts
 pub record AreLater (s : ℕ) (past : List Entry) : Type 0 where
+  -- Clc: the group of a Confirm may end at B before B takes it
   pub from_a : AreLaterIn past (untaken A s past)
+  -- Clc: B offers in later contact
   pub from_b : AreLaterIn past (untaken B s past)
 
 -- a side is in first contact with that link
@@ -28,6 +30,7 @@ pub record IsOfferedFirst (s : ℕ) (o : Offered) (past : List Entry) : Type 0 w
   pub named : offered B s past ≡ Some o
   pub opened : is_opened s past ≡ true
   pub first : o.offer.first ≡ true
+  -- Clc takes it away: A joins, or falls back
   pub untaken_b : untaken B s past ≡ AcceptMessage o.offer ∷ []
   pub untaken_a : untaken A s past ≡ []
   pub waits_a : end_state A s past ≡ WaitsAnswer
@@ -37,8 +40,11 @@ pub record IsOfferedFirst (s : ℕ) (o : Offered) (past : List Entry) : Type 0 w
   pub flow : flow_of B past ≡ record no_flow { link = FirstContact }
   pub table : table_of B past ≡ []
   pub slot : 1 ≤ o.link.slot
+  -- no link is made until A joins
   pub next : o.link.incarnation ≡ made_on o.link.slot (fabric past) + 1
+  -- A begins a group as it joins alone
   pub not_at_a : group_of A past ≢ o.link.group
+  -- a group ends at A only after A has joined it
   pub not_ended : has_ended A o.link.group past ≡ false
 
 -- A has joined, and B, whose group stands, has not taken the Confirm
@@ -48,11 +54,15 @@ pub record IsJoinedFirst (s : ℕ) (o p : Offered) (past : List Entry) (under : 
   pub opened : is_opened s past ≡ true
   pub link : p.link ≡ o.link
   pub first : p.offer.first ≡ true
+  -- Clc takes it away: B asks to confirm the link
   pub untaken_a : untaken A s past ≡ ConfirmMessage p.offer ∷ []
   pub untaken_b : untaken B s past ≡ []
   pub waits_b : end_state B s past ≡ WaitsConfirm
+  -- Report at B ends the group, and so the row
   pub at_b : IsConfirming B o.link past
+  -- Report at A may end its group meanwhile
   pub at_a : IsConfirming A o.link past ⊎ (has_ended A o.link.group past ≡ true)
+  -- nothing is asked before B takes the Confirm
   pub none : under ≡ None
 
 -- there is no first contact under way in the streams; or one of these two on one socket
@@ -63,10 +73,14 @@ pub data Contact (past : List Entry) (under : Option Under) : Type 0 where
 
 -- groups are counted
 pub record AreCounted (past : List Entry) : Type 0 where
+  -- Clc: B begins a group with the next number, A joins one of those
   pub at_most : (x : Side) → group_of x past ≤ groups_begun past
+  -- Clc begins the last one; Report and Deliver may end it
   pub last : group_of B past ≢ 0 → group_of B past ≡ groups_begun past
 
 -- once B has offered in later contact, each side that is in that group is beyond first contact, and the named link is not pending there
 pub record IsBeyond (past : List Entry) : Type 0 where
+  -- Clc: B offers in later contact; Deliver: the reply to CONFIRM LINK takes B beyond first contact
   pub first : (x : Side) (s : ℕ) (o : Offered) → offered B s past ≡ Some o → o.offer.first ≡ false → group_of x past ≡ o.link.group → is_first_contact (flow_of x past).link ≡ false
+  -- Clc: the named link is live at B; Deliver: a link goes live at A first
   pub pending : (x : Side) (s : ℕ) (o : Offered) → offered B s past ≡ Some o → o.offer.first ≡ false → link_at o.link.slot (table_of x past) ≡ Some o.link → is_pending (phase_at o.link.slot (table_of x past)) ≡ false

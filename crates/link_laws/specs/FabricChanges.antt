@@ -1,4 +1,4 @@
--- Lists of keys, and what an entry of a history may do to the keys of a side: each change with the message that makes it.
+-- What an entry may do to the fabric: six kinds of change, each with the message that makes it.
 use Rattle.std.specs.Prelude.{Bool, List, None, Some, false, true, ℕ, ◌==◌, ◌≡◌}
 use Rattle.pipe_model.specs.declared.post.Post.TheVariants.{Clc}
 use Rattle.clc_wire.specs.declared.message.ClcMessage.TheVariants.{Accept as AcceptMessage, Confirm as ConfirmMessage}

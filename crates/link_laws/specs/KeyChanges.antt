@@ -1,4 +1,4 @@
--- Lists of keys, and what an entry of a history may do to the keys of a side: each change with the message that makes it.
+-- What an entry may do to the keys of a side and to what a side has learnt: each change with the message that makes it.
 use Rattle.std.specs.Prelude.{Bool, List, Some, [], false, filter_map, take, true, ℕ, ◌<◌, ◌==◌, ◌∷◌, ◌≡◌}
 use Rattle.std.specs.List.{list_any}
 use Rattle.pipe_model.specs.declared.flow.FlowStep.TheVariants.{Confirmed}
@@ -28,8 +28,11 @@ same_use k j = is_for k.rmb k.link.slot j
 
 -- what is true of the keys of a side: no number twice, no RMB and slot twice, and numbers above the base
 pub record AreKeys (base : ℕ) (ks : List Key) : Type 0 where
+  -- Clc and Deliver bind the lowest free number
   pub numbers : NoTwo same_number ks
+  -- Clc and Deliver: a registering for another link of the slot keeps the number
   pub uses : NoTwo same_use ks
+  -- Clc and Deliver: numbers are bound from the base on
   pub above : (k : Key) → IsAmong k ks → base < k.key
 
 -- a side posts a CONFIRM RKEY with an entry

@@ -1,4 +1,4 @@
--- The message of a side's key flow under way: a CONFIRM RKEY or a DELETE RKEY, or its answer, on the link that carries the request.
+-- What is under way of a side's key flow: a CONFIRM RKEY or a DELETE RKEY, or its answer, on the link that carries the request.
 use Rattle.std.specs.Prelude.{Bool, List, Option, Some, false, true, ℕ, ◌&&◌, ◌==◌, ◌≡◌}
 use Rattle.history_laws.specs.Words.{ConfirmRkey, DeleteRkey, Entry, Flow, LlcMessage, Side, flow_of, is_asked, is_deleting, other, same_side}
 use Rattle.link_laws.specs.Linked.{Under}
@@ -27,6 +27,9 @@ key_kind x w = is_key_of x w.from w.message
 
 -- on links that are not dead nothing of a side's key flow is under way but one message, and that fits the side's flows
 pub record HasKeys (x : Side) (past : List Entry) : Type 0 where
+  -- what is under way of it
   pub under : Option Under
+  -- Clc, Trim, Report and Deliver post its messages
   pub carried : AreCarriedOf (key_kind x) past under
+  -- Report posts it again on another link; Deliver of the answer frees the flow
   pub fits : (w : Under) → under ≡ Some w → key_fits w.link.slot w.message (flow_of x past) ≡ true

@@ -1,5 +1,5 @@
--- Wires and pipes agree, over all links and incarnations, several connections and every event.
--- A reader learns here when a side has lost a link, what a link carries of an end, and what links, offers and establishments owe to that.
+-- What becomes of a link that has stood: it stands at a side, or was lost there.
+-- A reader learns here when a side has lost a link, in words that a later link of the slot does not change.
 use Rattle.std.specs.Prelude.{Bool, List, [], false, not, true, ℕ, ◌&&◌, ◌||◌, ◌∷◌, ◌≡◌, ◌⊎◌}
 use Rattle.history_laws.specs.Words.{A, B, Entry, LinkId, Setup, Side, group_of, has_ended, has_link, live_links, stands, table_of}
 use Rattle.link_laws.specs.UnderWay.{HasFlows}
@@ -25,6 +25,7 @@ has_stood link (e ∷ older) = (stands link (table_of A (e ∷ older)) || stands
 
 -- of links: one that stands was not lost
 pub record NoneAgain (past : List Entry) : Type 0 where
+  -- Clc and Deliver: a slot is made anew with a higher incarnation
   pub again : (x : Side) (link : LinkId) → stands link (table_of x past) ≡ true → is_lost x link past ≡ false
 
 -- before each entry links and flows are as they should be, and the handshake owes nothing to them

@@ -14,7 +14,9 @@ IsNear x l past = (stands l (table_of x past) ≡ true) ⊎ ((stands l (table_of
 
 -- what a side has learnt: one key an RMB and slot, and each is for a link of its group
 pub record IsBook (y : Side) (past : List Entry) : Type 0 where
+  -- Clc and Deliver: a key that is learnt takes the place of the earlier one
   pub once : NoTwo same_use (book_of y past)
+  -- Clc and Deliver: a key is learnt in the group of its link; Report ends the group
   pub group : (k : Key) → IsAmong k (book_of y past) → k.link.group ≡ group_of y past
 
 -- what is learnt is learnt of links that were made
@@ -31,8 +33,11 @@ AreExact x past = (k : Key) → IsAmong k (book_of (other x) past) → IsAmong k
 
 -- all of this of one side's keys
 pub record AreTold (x : Side) (past : List Entry) : Type 0 where
+  -- Clc and Deliver: a key is learnt for a link that was made
   pub made : AreMade (other x) past
+  -- Deliver: the answer to DELETE RKEY withdraws keys
   pub known : AreKnown x past
+  -- Deliver: the answer to CONFIRM RKEY confirms an RMB
   pub exact : AreExact x past
 
 -- a side offers in first contact with an entry

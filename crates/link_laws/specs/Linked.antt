@@ -53,10 +53,15 @@ is_open_key phase = is_asked phase || is_deleting phase
 
 -- all flows of a side whose group is beyond first contact
 pub record AreFlowing (x : Side) (phase : ℕ → LinkPhase) (f : Flow) : Type 0 where
+  -- Deliver: each step leaves a side in states of its own
   pub own : is_own_flow x f.link ≡ true
+  -- Report and Deliver may lose the new link, or the one that carries the request
   pub link : LinkFits phase f.link
+  -- Clc and Trim begin a request; Report moves it to another link
   pub key : is_open_key f.key ≡ true → phase f.on ≡ LiveLink
+  -- Test begins one; Report drops it with its link
   pub tests : AreLive phase f.tests
+  -- Report begins one; a second Report moves it to another link
   pub drops : CarryDrops phase f.drops
 
 -- the phases of the links that a side knows, by slot
@@ -72,12 +77,16 @@ pub data IsSound (x : Side) (p : Peer) : Type 0 where
 
 -- what a side knows in its group: slots from 1 rise, and its links are of its group
 pub record IsOwn (x : Side) (p : Peer) : Type 0 where
+  -- Clc and Deliver put a new link into the table
   pub rises : Rises 1 p.table
+  -- Clc: a group begins with an empty table
   pub owned : p.group ≢ 0 → AreOf p.group p.table
+  -- Report and Deliver: the group ends with its last live link
   pub sound : IsSound x p
 
 -- the links that a side knows are the latest of their slots
 pub record AreLatest (p : Peer) (latest : List Known) : Type 0 where
+  -- Clc and Deliver make a link only on a slot where none stands
   pub known : (k : ℕ) (link : LinkId) → link_at k p.table ≡ Some link → link_at k latest ≡ Some link
 
 -- whether B waits for the reply to CONFIRM LINK for a slot
@@ -107,9 +116,13 @@ flows_fit a b phase = true
 
 -- two sides in one group
 pub record AreTogether (a b : Peer) : Type 0 where
+  -- Clc and Deliver: both tables get a new link at once
   pub same : (k : ℕ) → link_at k a.table ≡ link_at k b.table
+  -- Deliver: CONFIRM LINK makes the link live at A, its reply at B
   pub slots : (k : ℕ) → slot_fits b.flow.link k (phases a k) (phases b k) ≡ true
+  -- Deliver: B leaves first contact with the reply, after A
   pub first : is_first_contact a.flow.link ≡ true → is_first_contact b.flow.link ≡ true
+  -- Report at A, which forgets that it waits; Deliver of ADD LINK
   pub flows : flows_fit a.flow.link b.flow.link (phases a) ≡ true
 
 -- a message of the link flow under way
@@ -157,10 +170,15 @@ FitsUnder w f = StandsAtBoth w.link f → under_fits w.from w.link.slot w.messag
 
 -- links, groups and flows, with the last message of the link flow, if it was not taken
 pub record AreLinked (f : Fabric) (under : Option Under) : Type 0 where
+  -- Clc and Deliver make a link
   pub latest_rises : Rises 1 f.latest
+  -- Clc and Deliver: a slot is made anew where no link stands on it at either side
   pub latest : (x : Side) → AreLatest (peer x f) f.latest
+  -- each event that changes flows, and Report, which loses a link
   pub own : (x : Side) → IsOwn x (peer x f)
+  -- Report, and Deliver of DELETE LINK: one side loses a link that the other still has
   pub together : f.a.group ≢ 0 → f.a.group ≡ f.b.group → AreTogether f.a f.b
+  -- Deliver takes a message and answers it; Report ends the flow that it fits, or posts it again
   pub fits : (w : Under) → under ≡ Some w → FitsUnder w f
 
 -- whether a message is of the link flow

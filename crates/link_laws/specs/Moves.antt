@@ -9,8 +9,11 @@ use Rattle.link_laws.specs.FabricChanges.{OffersFirst, Takes}
 -- what is so of the fabric after an entry, beside that before it: a link that stands newly has an incarnation above those made on its slot,
 -- those never fall, and a group stays, ends or is begun
 pub record Moves (e : Entry) (f g : Fabric) : Type 0 where
+  -- Clc and Deliver make links
   pub fresh : (z : Side) (l : LinkId) → stands l (peer z g).table ≡ true → (stands l (peer z f).table ≡ true) ⊎ (made_on l.slot f < l.incarnation)
+  -- Clc and Deliver: a slot is made anew with the next incarnation
   pub made : (j : ℕ) → made_on j f ≤ made_on j g
+  -- Clc begins a group; Report and Deliver end one
   pub groups : (z : Side) → ((peer z g).group ≡ (peer z f).group) ⊎ (((peer z g).group ≡ 0) ⊎ Begins z e)
 
 -- what is owed with an entry

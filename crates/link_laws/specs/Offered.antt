@@ -27,15 +27,27 @@ AreNamed named (m ∷ ms) = AreNamed named ms
 
 -- offers and groups, as the step of first contact wants them
 pub record AreOffered (past : List Entry) : Type 0 where
+  -- Clc: B's Accept of first contact counts the group that it names
   pub begun : (x : Side) (s : ℕ) (o : Offered) → offered x s past ≡ Some o → o.link.group ≤ groups_begun past
+  -- Clc: no group has the number 0
   pub some : (s : ℕ) (o : Offered) → offered B s past ≡ Some o → o.link.group ≢ 0
+  -- Clc: an offer names its group
   pub psn : (x : Side) (s : ℕ) (o : Offered) → offered x s past ≡ Some o → o.offer.psn ≡ o.link.group
+  -- Clc: in later contact B names a live link
   pub made : (s : ℕ) (o : Offered) → offered B s past ≡ Some o → o.offer.first ≡ false → o.link.incarnation ≤ made_on o.link.slot (fabric past)
+  -- Clc: a group that has ended is not begun again
   pub stands : (x : Side) → group_of x past ≢ 0 → has_ended x (group_of x past) past ≡ false
+  -- Report and Deliver end a group that was begun
   pub ended : (x : Side) (g : ℕ) → has_ended x g past ≡ true → g ≤ groups_begun past
+  -- Open posts the Proposal; Clc takes it
   pub proposed : (s : ℕ) → is_raw s past ≡ false → end_state B s past ≡ WaitsProposal → IsProposed s past
+  -- Open and Raw under one name
   pub plain : (s : ℕ) → is_opened s past ≡ true → is_raw s past ≡ false
+  -- Open and Raw begin a socket
   pub fresh : (s : ℕ) → is_opened s past ≡ false → is_raw s past ≡ false → IsFresh s past
+  -- Clc: what an end becomes is one of its side
   pub sided : (x : Side) (s : ℕ) → is_own_state x (early_state x s past) ≡ true
+  -- Clc: what stands in the stream is B's own Accept
   pub accepted : (s : ℕ) → is_raw s past ≡ false → AreNamed (offered B s past) (untaken B s past)
+  -- Raw begins no end of A
   pub lone : (s : ℕ) → is_raw s past ≡ true → early_state A s past ≡ NoEnd

@@ -1,4 +1,4 @@
--- What an entry is given by the definitions, and what the handshake owes to links and flows.
+-- What the handshake owes to links and flows.
 -- A reader learns here which four facts of first contact the step of links and flows needs, and where.
 use Rattle.std.specs.Prelude.{List, None, Option, [], false, true, unwrap_or, ℕ, ◌+◌, ◌∷◌, ◌≡◌, ◌≢◌, ◌≤◌}
 use Rattle.clc_wire.specs.declared.message.ClcMessage.TheVariants.{Accept as AcceptMessage, Confirm as ConfirmMessage}
@@ -36,7 +36,11 @@ pub record CanAskKey (x : Side) (past : List Entry) : Type 0 where
 -- what the handshake owes after a history, where `under` is what is under way of the link flow: A's group is one that B has begun; A joins,
 -- B asks for the first link, and A asks for a key, only where they may
 pub record Owed (setup : Setup) (payload : List ℕ) (past : List Entry) (under : Option Under) : Type 0 where
+  -- Clc: the number of the group that B begins is new at A
   pub begins : group_of A past ≤ groups_begun past
+  -- Clc: A takes an Accept of first contact
   pub joins : (s : ℕ) (dir : Side) (m : ClcMessage) → IsTaken payload s dir m past → clc_step setup payload (other dir) s m past ≡ SendConfirm true → CanJoin (unwrap_or (named_link s past) no_link) past
+  -- Clc: B takes the Confirm of first contact
   pub asks : (s : ℕ) (dir : Side) (o : Offer) → IsTaken payload s dir (ConfirmMessage o) past → clc_step setup payload (other dir) s (ConfirmMessage o) past ≡ Ready → o.first ≡ true → CanAsk (unwrap_or (named_link s past) no_link) past under
+  -- Clc: A takes an Accept of later contact while an RMB lacks its key
   pub keys : (s : ℕ) (o : Offer) → IsTaken payload s B (AcceptMessage o) past → clc_step setup payload A s (AcceptMessage o) past ≡ AskKey → CanAskKey A past

@@ -20,6 +20,9 @@ test_fits k slot f = (slot == k) && has k f.tests
 
 -- on links that are not dead nothing of a side's test of a slot is under way but one message, and the test is outstanding
 pub record HasTest (x : Side) (k : ℕ) (past : List Entry) : Type 0 where
+  -- what is under way of it
   pub under : Option Under
+  -- Test posts one, Deliver answers it
   pub carried : AreCarriedOf (test_kind x k) past under
+  -- Report drops the tests of the lost link; Deliver of the answer ends the test
   pub fits : (w : Under) → under ≡ Some w → test_fits k w.link.slot (flow_of x past) ≡ true

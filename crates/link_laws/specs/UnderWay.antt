@@ -45,7 +45,9 @@ living past (Some w) = if is_dead w.link past then None else Some w
 
 -- on links that are not dead nothing of a kind is under way but that message, and the link of that message is not dead
 pub record AreCarriedOf (kind : Under → Bool) (past : List Entry) (under : Option Under) : Type 0 where
+  -- Report and Cut: the message is forgotten with its link
   pub alive : (w : Under) → under ≡ Some w → is_dead w.link past ≡ false
+  -- Deliver and Swallow take it away; each event that posts brings one, where none was
   pub carried : (l : LinkId) (x : Side) → is_dead l past ≡ false → kind_messages kind (unlanded l x past) ≡ carried_on l x under
 
 -- a link that is not made yet: of a later incarnation than its slot has
@@ -54,6 +56,7 @@ IsUnmade l f = made_on l.slot f < l.incarnation
 
 -- no LLC message waits on a link that is not made yet
 pub record AreEmpty (past : List Entry) : Type 0 where
+  -- Clc and Deliver make a link, and post on links that were made
   pub empty : (l : LinkId) (x : Side) → IsUnmade l (fabric past) → kind_messages any_kind (unlanded l x past) ≡ []
 
 -- each of these LLC messages is on a link that was made
@@ -64,7 +67,11 @@ AreOnMade f (post ∷ posts) = AreOnMade f posts
 
 -- links, groups, flows and what is under way of the link flow, after a history; and no LLC message is on a link that is not made yet
 pub record HasFlows (past : List Entry) : Type 0 where
+  -- what is under way of the link flow
   pub under : Option Under
+  -- and fits both sides
   pub linked : AreLinked (fabric past) under
+  -- on the links that are not dead
   pub carried : AreCarriedOf link_kind past under
+  -- so that a new link begins with empty wires
   pub empty : AreEmpty past

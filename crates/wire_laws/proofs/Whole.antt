@@ -1,6 +1,6 @@
 -- Links, flows, first contact, lendings and the agreement of wires and pipes together: what is asked of a history is that CLC messages are taken on known sockets.
 use Rattle.std.proofs.Common.{List, [], false, inr, refl, ℕ, ◌∷◌, ◌≡◌}
-use Rattle.history_laws.specs.Words.{B, Entry, IsLent, Lending, LinkId, Setup, Side, element_size, group_on, has_ended, lendings, lent, other}
+use Rattle.history_laws.specs.Words.{B, Entry, RelendsOnlyDone, Lending, LinkId, Setup, Side, element_size, group_on, has_ended, lendings, lent, other}
 use Rattle.history_laws.specs.Made.{IsMadeAll}
 use Rattle.history_laws.specs.Lists.{IsAmong}
 use Rattle.link_laws.specs.Awaited.{AreOnKnown}
@@ -34,7 +34,7 @@ pub lendings-hold : (setup : Setup) (payload : List ℕ) (past : List Entry) (x 
 lendings-hold setup payload past x elements m known = lending-laws setup payload past x elements m (least-of setup payload past m known)
 
 -- no element is lent again too early
-pub lent-holds : (setup : Setup) (payload : List ℕ) (e : Entry) (past : List Entry) (x : Side) → HasElements setup → IsMadeAll setup payload (e ∷ past) → AreOnKnown setup past → IsLent x e past
+pub lent-holds : (setup : Setup) (payload : List ℕ) (e : Entry) (past : List Entry) (x : Side) → HasElements setup → IsMadeAll setup payload (e ∷ past) → AreOnKnown setup past → RelendsOnlyDone x e past
 lent-holds setup payload e past x elements m known = relending setup payload e past x elements m (least-of setup payload past m.1 known)
 
 -- and no link that the peer has not lost carries bytes of a connection whose lending has ended, while its group stands

@@ -6,7 +6,7 @@ ghost use Rattle.lending_laws.specs.Reuse.{CarriesNoBytes};
 ghost use Rattle.link_laws.specs.Awaited.{AreOnKnown};
 ghost use Rattle.link_laws.specs.Lasting.{is_lost};
 ghost use Rattle.pipe_model.specs.Fabric.{has_ended};
-ghost use Rattle.pipe_model.specs.Lending.{IsLent, Lending, lendings, lent};
+ghost use Rattle.pipe_model.specs.Lending.{RelendsOnlyDone, Lending, lendings, lent};
 ghost use Rattle.pipe_model.specs.Words.{element_size};
 ghost use Rattle.pipe_model.specs.declared.entry.Entry.{Entry};
 ghost use Rattle.pipe_model.specs.declared.setup.Setup.{Setup};
@@ -24,7 +24,7 @@ pub fn wires_and_pipes_always_agree()
 
 /// In such a history no element is lent again too early.
 pub fn no_element_is_ever_lent_again_too_early()
-    ensures { (setup : Setup) (payload : List ℕ) (e : Entry) (past : List Entry) (x : Side) → HasElements setup → IsMadeAll setup payload (e ∷ past) → AreOnKnown setup past → IsLent x e past }
+    ensures { (setup : Setup) (payload : List ℕ) (e : Entry) (past : List Entry) (x : Side) → HasElements setup → IsMadeAll setup payload (e ∷ past) → AreOnKnown setup past → RelendsOnlyDone x e past }
 {}
 
 /// And lendings are numbered and apart, what is lent is held, and what is not lent is done with.

@@ -255,7 +255,7 @@ module _ (setup : Setup) (payload : List ℕ) (past : List Entry) (before : ℕ)
       open-free s _ = tt
 
       report-free : (x : Side) (k : ℕ) (r : Reply) → AreFree (asked setup payload past (Report x k) r)
-      report-free x k Done = loss-free x k true (loses k (peer_of x past)) (flow_of x past) past
+      report-free x k Done = loss-free setup x k true (loses k (peer_of x past)) (flow_of x past) past
       report-free x k _ = tt
 
       grow-free : (r : Reply) → AreFree (asked setup payload past Grow r)

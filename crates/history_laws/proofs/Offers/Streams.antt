@@ -63,10 +63,10 @@ add-silent x p ks qp (LinkSent k) = tt
 add-silent x p ks qp (Abandoned on) = tt
 add-silent x p ks qp (AddSeen k) = tt
 
-loss-silent : (x : Side) (k : ℕ) (own : Bool) (p : Peer) (before : Flow) (past : List Entry) → AreNoClc (loss_posts x k own p before past)
-loss-silent x k own p before past = either-silent (p.group == 0) _ _ tt
-    (silent-append (drop_posts x k own p ++ (if resends_key k before then key_again x p (keys_of x past).keys (deleting_rmbs x past) before.key ∷ [] else [])) _
-    (silent-append (drop_posts x k own p) _ (either-silent (own && not (is_dropping k p.flow)) _ _ (tt, tt) tt) (either-silent (resends_key k before) _ _ (key-silent x p (keys_of x past).keys (deleting_rmbs x past) before.key, tt) tt))
+loss-silent : (setup : Setup) (x : Side) (k : ℕ) (own : Bool) (p : Peer) (before : Flow) (past : List Entry) → AreNoClc (loss_posts setup x k own p before past)
+loss-silent setup x k own p before past = either-silent (p.group == 0) _ _ tt
+    (silent-append (drop_posts x k own p ++ (if resends_key k before then key_again x p (keys_of x past).keys (deleting_rmbs setup x past) before.key ∷ [] else [])) _
+    (silent-append (drop_posts x k own p) _ (either-silent (own && not (is_dropping k p.flow)) _ _ (tt, tt) tt) (either-silent (resends_key k before) _ _ (key-silent x p (keys_of x past).keys (deleting_rmbs setup x past) before.key, tt) tt))
     (either-silent (resends_add k before.link) _ _ (add-silent x p (keys_of x past) _ before.link) tt))
 
 step-silent : (setup : Setup) (x : Side) (on : LinkId) (m : LlcMessage) (past : List Entry) (step : FlowStep) → AreNoClc (step_posts setup x on m past step)
@@ -86,7 +86,7 @@ step-silent setup x on m past Withdraw = tt
 step-silent setup x on m past ReplyRetry = (tt, tt)
 step-silent setup x on m past Learn = (tt, tt)
 step-silent setup x on m past Forget = (tt, tt)
-step-silent setup x on m past (Gone report) = (tt, either-silent report _ _ (loss-silent x (named_slot m on.slot) false (loses (named_slot m on.slot) (peer_of x past)) (flow_of x past) past) tt)
+step-silent setup x on m past (Gone report) = (tt, either-silent report _ _ (loss-silent setup x (named_slot m on.slot) false (loses (named_slot m on.slot) (peer_of x past)) (flow_of x past) past) tt)
 step-silent setup x on m past Answered = tt
 step-silent setup x on m past Echo = (tt, tt)
 
@@ -180,7 +180,7 @@ module _ (setup : Setup) (payload : List ℕ) (past : List Entry) (before : ℕ)
       asked-front t dir _ j = (λ h. cc, j)
 
       report-quiet : (y : Side) (k : ℕ) (r : Reply) → AreNoClc (asked setup payload past (Report y k) r)
-      report-quiet y k Done = loss-silent y k true (loses k (peer_of y past)) (flow_of y past) past
+      report-quiet y k Done = loss-silent setup y k true (loses k (peer_of y past)) (flow_of y past) past
       report-quiet y k _ = tt
 
       grow-quiet : (r : Reply) → AreNoClc (asked setup payload past Grow r)

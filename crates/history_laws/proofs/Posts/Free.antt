@@ -50,10 +50,10 @@ add-free x p ks qp (LinkSent k) = tt
 add-free x p ks qp (Abandoned on) = tt
 add-free x p ks qp (AddSeen k) = tt
 
-pub loss-free : (x : Side) (k : ℕ) (own : Bool) (p : Peer) (before : Flow) (past : List Entry) → AreFree (loss_posts x k own p before past)
-loss-free x k own p before past = either-free (p.group == 0) _ _ tt
-    (free-append (drop_posts x k own p ++ (if resends_key k before then key_again x p (keys_of x past).keys (deleting_rmbs x past) before.key ∷ [] else [])) _
-    (free-append (drop_posts x k own p) _ (either-free (own && not (is_dropping k p.flow)) _ _ (tt, tt) tt) (either-free (resends_key k before) _ _ (key-free x p (keys_of x past).keys (deleting_rmbs x past) before.key, tt) tt))
+pub loss-free : (setup : Setup) (x : Side) (k : ℕ) (own : Bool) (p : Peer) (before : Flow) (past : List Entry) → AreFree (loss_posts setup x k own p before past)
+loss-free setup x k own p before past = either-free (p.group == 0) _ _ tt
+    (free-append (drop_posts x k own p ++ (if resends_key k before then key_again x p (keys_of x past).keys (deleting_rmbs setup x past) before.key ∷ [] else [])) _
+    (free-append (drop_posts x k own p) _ (either-free (own && not (is_dropping k p.flow)) _ _ (tt, tt) tt) (either-free (resends_key k before) _ _ (key-free x p (keys_of x past).keys (deleting_rmbs setup x past) before.key, tt) tt))
     (either-free (resends_add k before.link) _ _ (add-free x p (keys_of x past) _ before.link) tt))
 
 step-free : (setup : Setup) (x : Side) (on : LinkId) (m : LlcMessage) (past : List Entry) (step : FlowStep) → AreFree (step_posts setup x on m past step)
@@ -73,7 +73,7 @@ step-free setup x on m past Withdraw = tt
 step-free setup x on m past ReplyRetry = (tt, tt)
 step-free setup x on m past Learn = (tt, tt)
 step-free setup x on m past Forget = (tt, tt)
-step-free setup x on m past (Gone report) = (tt, either-free report _ _ (loss-free x (named_slot m on.slot) false (loses (named_slot m on.slot) (peer_of x past)) (flow_of x past) past) tt)
+step-free setup x on m past (Gone report) = (tt, either-free report _ _ (loss-free setup x (named_slot m on.slot) false (loses (named_slot m on.slot) (peer_of x past)) (flow_of x past) past) tt)
 step-free setup x on m past Answered = tt
 step-free setup x on m past Echo = (tt, tt)
 

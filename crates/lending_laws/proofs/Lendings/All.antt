@@ -8,7 +8,7 @@ use Rattle.pipe_model.specs.declared.event.Event.TheVariants.{Clc as ClcEvent}
 use Rattle.pipe_model.specs.declared.reply.Reply.TheVariants.{Sent}
 use Rattle.pipe_model.specs.declared.reply.SentKind.TheVariants.{ConfirmLink as LinkSent}
 use Rattle.pipe_model.specs.Connections.{comes_up}
-use Rattle.history_laws.specs.Words.{A, B, ClcFault, ClcMessage, EndState, Entry, Established, Faulty, HasFallen, IsLent, IsUp, Lending, LinkId, Lost, NoEnd, Offer, Offered, Ready, Setup, Side, WaitsAnswer, WaitsConfirm, WaitsLink, WaitsProposal, WasReset, after_clc, after_event, after_loss, early_state, element_size, end_state, expects, front, front_of, gives_up, group_of, group_on, half, has_ended, head, is_opened, is_out, is_over, is_raw, is_up, lacks, lendings, lends_by, lent, loses_group_with, new_offer, offered, other, part, pipe_of, step_told, stream, terms_of, untaken, verdict}
+use Rattle.history_laws.specs.Words.{A, B, ClcFault, ClcMessage, EndState, Entry, Established, Faulty, HasFallen, RelendsOnlyDone, IsUp, Lending, LinkId, Lost, NoEnd, Offer, Offered, Ready, Setup, Side, WaitsAnswer, WaitsConfirm, WaitsLink, WaitsProposal, WasReset, after_clc, after_event, after_loss, early_state, element_size, end_state, expects, front, front_of, gives_up, group_of, group_on, half, has_ended, head, is_opened, is_out, is_over, is_raw, is_up, lacks, lendings, lends_by, lent, loses_group_with, new_offer, offered, other, part, pipe_of, step_told, stream, terms_of, untaken, verdict}
 use Rattle.history_laws.specs.Made.{IsMadeAll, IsMadeAny}
 use Rattle.history_laws.specs.Offers.{HasOffers, HasStates, HasStream, IsProposed, NewLending, NoProposal, is_early, is_none}
 use Rattle.history_laws.proofs.Offers.{Answers, ByVerdict, Does, DoesBegin, DoesNothing, DoesTake, ForFault, NotTaken, all-offers, answers, does, front-in, new-or-old, not-none, opens-new, state-early, state-up, states, taken-as}
@@ -219,7 +219,7 @@ module _ (setup : Setup) (payload : List ℕ) where
   pub t3-t4 : (past : List Entry) → IsMadeAll setup payload past → OwedFrom setup payload past → (x : Side) → AreDone setup payload x past
   t3-t4 past m b x = are-done setup payload past m (all-owed setup payload past m b) x
 
-  pub g2 : HasElements setup → (e : Entry) (past : List Entry) → IsMadeAll setup payload (e ∷ past) → OwedFrom setup payload past → (x : Side) → IsLent x e past
+  pub g2 : HasElements setup → (e : Entry) (past : List Entry) → IsMadeAll setup payload (e ∷ past) → OwedFrom setup payload past → (x : Side) → RelendsOnlyDone x e past
   g2 elements e past m b x = is-lent setup elements payload e past m (all-owed setup payload past m.1 b) x
 
   pub reuse : (past : List Entry) → IsMadeAll setup payload past → OwedFrom setup payload past → AreCarriedOn setup payload past → (y : Side) (l : Lending) → IsAmong l (lendings y past) → (IsAmong l (lent setup payload y past) → ⊥) → has_ended y l.group past ≡ false

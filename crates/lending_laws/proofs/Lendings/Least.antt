@@ -7,7 +7,7 @@ use Rattle.pipe_model.specs.declared.event.Event.TheVariants.{Clc as ClcEvent, R
 use Rattle.std.specs.Prelude.{None, Option, Some, option_and_then, option_map}
 use Rattle.pipe_model.specs.declared.flow.FlowStep.TheVariants.{Live}
 use Rattle.pipe_model.specs.Connections.{comes_up}
-use Rattle.history_laws.specs.Words.{A, Act, AskKey, B, ClcMessage, ClcStep, Decline, Declined, EndState, Entry, Established, Event, Fell, FellBack, FlowStep, HasFallen, Held, IsLent, IsUp, Lacks, Lending, LinkId, Lost, NoEnd, Offer, Offered, Open, Opened, Ready, Reply, Reset, SendAccept, SendConfirm, Setup, Side, Wait, WaitsAnswer, WaitsConfirm, WaitsLink, WaitsProposal, WasReset, Whole, Wrong, Wrote, act_in, after_clc, after_event, after_loss, after_raw, clc_step, confirmed_by, early_state, element_size, end_state, expects, front, group_on, has_ended, is_out, is_raw, is_up, lacks, lendings, lends_by, lent, loses_group_with, named_link, new_offer, offered, other, step_told, verdict}
+use Rattle.history_laws.specs.Words.{A, Act, AskKey, B, ClcMessage, ClcStep, Decline, Declined, EndState, Entry, Established, Event, Fell, FellBack, FlowStep, HasFallen, Held, RelendsOnlyDone, IsUp, Lacks, Lending, LinkId, Lost, NoEnd, Offer, Offered, Open, Opened, Ready, Reply, Reset, SendAccept, SendConfirm, Setup, Side, Wait, WaitsAnswer, WaitsConfirm, WaitsLink, WaitsProposal, WasReset, Whole, Wrong, Wrote, act_in, after_clc, after_event, after_loss, after_raw, clc_step, confirmed_by, early_state, element_size, end_state, expects, front, group_on, has_ended, is_out, is_raw, is_up, lacks, lendings, lends_by, lent, loses_group_with, named_link, new_offer, offered, other, step_told, verdict}
 use Rattle.history_laws.proofs.Offers.{Answers, ByVerdict, ForFault, NotTaken, accept-step, all-offers, answers, confirms-in, front-in, kept, never-waits, new-or-old, proposal-step, sends-confirm, state-early, state-up, states}
 use Rattle.history_laws.specs.Made.{IsMadeAll, IsMadeAny}
 use Rattle.history_laws.specs.Offers.{HasOffers, HasStates, NewLending}
@@ -306,7 +306,7 @@ from-least setup payload (e ∷ past) m w =
     (record { known = all-known setup payload (e ∷ past) m (all-with setup payload (e ∷ past) w); own = now.own; feasible = now.feasible }, (with-least setup payload e past m rest.0, from-least setup payload past m.1 rest.1))
 
 -- an element is lent again only when it is done with, from the least that is owed
-pub relending : (setup : Setup) (payload : List ℕ) (e : Entry) (past : List Entry) (x : Side) → HasElements setup → IsMadeAll setup payload (e ∷ past) → OwedLeast setup payload past → IsLent x e past
+pub relending : (setup : Setup) (payload : List ℕ) (e : Entry) (past : List Entry) (x : Side) → HasElements setup → IsMadeAll setup payload (e ∷ past) → OwedLeast setup payload past → RelendsOnlyDone x e past
 relending setup payload e past x elements m w = g2 setup payload elements e past m (from-least setup payload past m.1 w) x
 
 -- lendings are apart, held and done with, from the least that is owed

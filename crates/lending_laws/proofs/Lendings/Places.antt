@@ -5,7 +5,7 @@ use Rattle.std.proofs.lemmas.List.Elements.{All-cons, All-nil}
 use Rattle.smc_num.specs.Places.{is_free, places_in}
 use Rattle.pipe_model.specs.Lending.{IsRelent, free_places, lent_places}
 use Rattle.std.specs.List.{list_any, range_with_len}
-use Rattle.history_laws.specs.Words.{A, B, Entry, IsLent, Lending, LinkId, Place, Setup, Side, all_places, elements_of, group_of, head, is_done_with, lacks, lendings, lends, lends_by, lent, new_offer, next_free, rmbs_of, same_place}
+use Rattle.history_laws.specs.Words.{A, B, Entry, RelendsOnlyDone, Lending, LinkId, Place, Setup, Side, all_places, elements_of, group_of, head, is_done_with, lacks, lendings, lends, lends_by, lent, new_offer, next_free, rmbs_of, same_place}
 use Rattle.history_laws.specs.Lists.{IsAmong}
 use Rattle.history_laws.specs.Made.{IsMadeAll, IsMadeAny}
 use Rattle.history_laws.proofs.Offers.{accept-new, all-offers, confirm-new, free-lends-all, of-entry, states}
@@ -133,5 +133,5 @@ module _ (setup : Setup) (elements : HasElements setup) (payload : List ℕ) (e 
       by k same free (inl j) = absurd (true≢false (sym same ∙ free k j))
       by k same free (inr d) = d
 
-  pub is-lent : (x : Side) → IsLent x e past
+  pub is-lent : (x : Side) → RelendsOnlyDone x e past
   is-lent x = all-of (λ l. IsRelent x l past) (filter_map (lends x) e.posts) (relent x)

@@ -121,7 +121,7 @@ step-wired setup y l m past Reject = tt
 step-wired setup y l m past ReplyRetry = tt
 step-wired setup y l m past Learn = tt
 step-wired setup y l m past Forget = tt
-step-wired setup y l m past (Gone true) = report-wired y (named_slot m l.slot) false (loses (named_slot m l.slot) (peer_of y past)) (flow_of y past) past
+step-wired setup y l m past (Gone true) = report-wired setup y (named_slot m l.slot) false (loses (named_slot m l.slot) (peer_of y past)) (flow_of y past) past
 step-wired setup y l m past (Gone false) = tt
 step-wired setup y l m past Echo = tt
 step-wired setup y l m past Skip = tt
@@ -196,7 +196,7 @@ module _ (setup : Setup) (past : List Entry) (under : Option Under) (linked : Ar
     plain = refl;
     quiet = refl;
     still = λ st ne low g. absurd (ne (sym g ∙ starting-ends k (peer y (fabric past)) st (s refl)));
-    silent = λ st. no-under-lost y k false past under linked (λ z. starting-ends k (peer B (fabric past)) (st z) (subst (λ w. is_standing (phase_at k (table_of w past)) ≡ true) z (s refl)));
+    silent = λ st. no-under-lost setup y k false past under linked (λ z. starting-ends k (peer B (fabric past)) (st z) (subst (λ w. is_standing (phase_at k (table_of w past)) ≡ true) z (s refl)));
   }
 
   key-reply : (y : Side) (retry negative : Bool) (others : ℕ) (tokens : List KeyToken) (whole : Bool) (phase : KeyPhase) → (peer y (fabric past)).flow.key ≡ phase → IsHarmless y (ConfirmRkey true retry negative others tokens) (on_confirm_rkey_reply retry whole phase)

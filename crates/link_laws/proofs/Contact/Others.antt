@@ -23,14 +23,14 @@ use Rattle.link_laws.proofs.Contact.Beyond.{first-has-group}
 use Rattle.link_laws.proofs.Contact.Reflows.{moves-flow}
 
 -- what a report posts is on links
-pub report-wired : (x : Side) (k : ℕ) (own : Bool) (p : Peer) (before : Flow) (past : List Entry) → AreWired (loss_posts x k own p before past)
-report-wired x k own p before past = all (p.group == 0)
+pub report-wired : (setup : Setup) (x : Side) (k : ℕ) (own : Bool) (p : Peer) (before : Flow) (past : List Entry) → AreWired (loss_posts setup x k own p before past)
+report-wired setup x k own p before past = all (p.group == 0)
   where
     drops : (b : Bool) (post : Post) → AreWired (post ∷ []) → AreWired (if b then post ∷ [] else [])
     drops true post w = w
     drops false post w = tt
 
-    again : (phase : KeyPhase) → AreWired (key_again x p (keys_of x past).keys (deleting_rmbs x past) phase ∷ [])
+    again : (phase : KeyPhase) → AreWired (key_again x p (keys_of x past).keys (deleting_rmbs setup x past) phase ∷ [])
     again Free = tt
     again Asked = tt
     again RetryWaits = tt
@@ -49,9 +49,9 @@ report-wired x k own p before past = all (p.group == 0)
     if-wired true ps w = w
     if-wired false ps w = tt
 
-    all : (b : Bool) → AreWired (if b then [] else (drop_posts x k own p ++ (if resends_key k before then key_again x p (keys_of x past).keys (deleting_rmbs x past) before.key ∷ [] else [])) ++ (if resends_add k before.link then add_again x p (keys_of x past) (pair_on x (flow_slot before.link) past) before.link else []))
+    all : (b : Bool) → AreWired (if b then [] else (drop_posts x k own p ++ (if resends_key k before then key_again x p (keys_of x past).keys (deleting_rmbs setup x past) before.key ∷ [] else [])) ++ (if resends_add k before.link then add_again x p (keys_of x past) (pair_on x (flow_slot before.link) past) before.link else []))
     all true = tt
-    all false = wired-append (drop_posts x k own p ++ (if resends_key k before then key_again x p (keys_of x past).keys (deleting_rmbs x past) before.key ∷ [] else [])) _ (wired-append (drop_posts x k own p) _ (drops (own && not (is_dropping k p.flow)) _ tt) (if-wired (resends_key k before) _ (again before.key))) (if-wired (resends_add k before.link) _ (add before.link))
+    all false = wired-append (drop_posts x k own p ++ (if resends_key k before then key_again x p (keys_of x past).keys (deleting_rmbs setup x past) before.key ∷ [] else [])) _ (wired-append (drop_posts x k own p) _ (drops (own && not (is_dropping k p.flow)) _ tt) (if-wired (resends_key k before) _ (again before.key))) (if-wired (resends_add k before.link) _ (add before.link))
 
 -- A posts no request of the link flow again
 pub no-resend-a : (k : ℕ) (p : Peer) → IsSound A p → resends_add k p.flow.link ≡ false
@@ -73,16 +73,16 @@ no-resend-a k p s = by p.flow.link (own s)
     by (KeysSent j on) e = absurd (true≢false (sym e))
 
 -- in first contact a side posts nothing of the link flow as it loses a link
-pub no-under-lost : (x : Side) (k : ℕ) (own : Bool) (past : List Entry) (u : Option Under) → AreLinked (fabric past) u → (x ≡ B → (loses k (peer B (fabric past))).group ≡ 0) → under_in (report_posts x k own past) ≡ None
-no-under-lost B k own past u all gone = ap (λ b. under_in (if b then [] else (drop_posts B k own (loses k (peer_of B past)) ++ (if resends_key k (flow_of B past) then key_again B (loses k (peer_of B past)) (keys_of B past).keys (deleting_rmbs B past) (flow_of B past).key ∷ [] else [])) ++ (if resends_add k (flow_of B past).link then add_again B (loses k (peer_of B past)) (keys_of B past) (pair_on B (flow_slot (flow_of B past).link) past) (flow_of B past).link else []))) (eq-eqb (loses k (peer B (fabric past))).group 0 (gone refl))
-no-under-lost A k own past u all gone = by ((loses k (peer A (fabric past))).group == 0) refl
+pub no-under-lost : (setup : Setup) (x : Side) (k : ℕ) (own : Bool) (past : List Entry) (u : Option Under) → AreLinked (fabric past) u → (x ≡ B → (loses k (peer B (fabric past))).group ≡ 0) → under_in (report_posts setup x k own past) ≡ None
+no-under-lost setup B k own past u all gone = ap (λ b. under_in (if b then [] else (drop_posts B k own (loses k (peer_of B past)) ++ (if resends_key k (flow_of B past) then key_again B (loses k (peer_of B past)) (keys_of B past).keys (deleting_rmbs setup B past) (flow_of B past).key ∷ [] else [])) ++ (if resends_add k (flow_of B past).link then add_again B (loses k (peer_of B past)) (keys_of B past) (pair_on B (flow_slot (flow_of B past).link) past) (flow_of B past).link else []))) (eq-eqb (loses k (peer B (fabric past))).group 0 (gone refl))
+no-under-lost setup A k own past u all gone = by ((loses k (peer A (fabric past))).group == 0) refl
   where
     sound : IsSound A (peer A (fabric past))
     sound = let o : IsOwn A (peer A (fabric past)) = all.own A in o.sound
 
-    by : (b : Bool) → ((loses k (peer A (fabric past))).group == 0) ≡ b → under_in (report_posts A k own past) ≡ None
-    by true e = ap (λ b. under_in (if b then [] else (drop_posts A k own (loses k (peer_of A past)) ++ (if resends_key k (flow_of A past) then key_again A (loses k (peer_of A past)) (keys_of A past).keys (deleting_rmbs A past) (flow_of A past).key ∷ [] else [])) ++ (if resends_add k (flow_of A past).link then add_again A (loses k (peer_of A past)) (keys_of A past) (pair_on A (flow_slot (flow_of A past).link) past) (flow_of A past).link else []))) e
-    by false e = under-loss A k own (loses k (peer A (fabric past))) (flow_of A past) past e ∙ ap (λ b. under_in (if b then add_again A (loses k (peer_of A past)) (keys_of A past) (pair_on A (flow_slot (flow_of A past).link) past) (flow_of A past).link else [])) (no-resend-a k (peer A (fabric past)) sound)
+    by : (b : Bool) → ((loses k (peer A (fabric past))).group == 0) ≡ b → under_in (report_posts setup A k own past) ≡ None
+    by true e = ap (λ b. under_in (if b then [] else (drop_posts A k own (loses k (peer_of A past)) ++ (if resends_key k (flow_of A past) then key_again A (loses k (peer_of A past)) (keys_of A past).keys (deleting_rmbs setup A past) (flow_of A past).key ∷ [] else [])) ++ (if resends_add k (flow_of A past).link then add_again A (loses k (peer_of A past)) (keys_of A past) (pair_on A (flow_slot (flow_of A past).link) past) (flow_of A past).link else []))) e
+    by false e = under-loss setup A k own (loses k (peer A (fabric past))) (flow_of A past) past e ∙ ap (λ b. under_in (if b then add_again A (loses k (peer_of A past)) (keys_of A past) (pair_on A (flow_slot (flow_of A past).link) past) (flow_of A past).link else [])) (no-resend-a k (peer A (fabric past)) sound)
 
 pub starting-peer : (x : Side) (past : List Entry) → IsStarting x past → IsStartingPeer (peer x (fabric past))
 starting-peer x past st = record { flow = st.flow; table = st.table }
@@ -142,8 +142,8 @@ module _ (setup : Setup) (payload : List ℕ) (past : List Entry) (under : Optio
         by : (a b c : Bool) → standing_at k (table_of x past) ≡ a → ((loses k (peer_of x past)).group == 0) ≡ c
             → Kind past under (record { actor = actor; event = Report x k; reply = if a && b then (if c then GroupEnded (peer_of x past).group else Done) else Idle; posts = asked setup payload past (Report x k) (if a && b then (if c then GroupEnded (peer_of x past).group else Done) else Idle) ++ rest })
         by true true true s g = plain-kind (Report x k) (GroupEnded (peer_of x past).group) rest refl wired (no-act (GroupEnded (peer_of x past).group)) (report-moves (GroupEnded (peer_of x past).group) rest s refl (λ l u c. nothing-under))
-        by true true false s g = plain-kind (Report x k) Done (report_posts x k true past ++ rest) refl (wired-append (report_posts x k true past) rest (report-wired x k true (loses k (peer_of x past)) (flow_of x past) past) wired) (no-act Done)
-            (report-moves Done (report_posts x k true past ++ rest) s refl (λ l u c. under-append (report_posts x k true past) rest ∙ ap (λ o. option_or o (under_in rest)) (no-under-lost x k true past under linked (λ z. absurd (true≢false (sym (eq-eqb (loses k (peer_of x past)).group 0 (gone z l c s)) ∙ g)))) ∙ data-under rest data_rest))
+        by true true false s g = plain-kind (Report x k) Done (report_posts setup x k true past ++ rest) refl (wired-append (report_posts setup x k true past) rest (report-wired setup x k true (loses k (peer_of x past)) (flow_of x past) past) wired) (no-act Done)
+            (report-moves Done (report_posts setup x k true past ++ rest) s refl (λ l u c. under-append (report_posts setup x k true past) rest ∙ ap (λ o. option_or o (under_in rest)) (no-under-lost setup x k true past under linked (λ z. absurd (true≢false (sym (eq-eqb (loses k (peer_of x past)).group 0 (gone z l c s)) ∙ g)))) ∙ data-under rest data_rest))
           where
             gone : x ≡ B → (l : LinkId) → IsConfirming B l past → standing_at k (table_of x past) ≡ true → (loses k (peer_of x past)).group ≡ 0
             gone z l c s = subst (λ y. standing_at k (table_of y past) ≡ true → (loses k (peer_of y past)).group ≡ 0) (sym z) (starting-ends k (peer B (fabric past)) (confirming-peer B l past c)) s

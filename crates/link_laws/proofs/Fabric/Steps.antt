@@ -1,5 +1,5 @@
 -- Which steps B takes with a landed message: none makes a link; it tells its keys for the slot of its flow, and then asks to confirm that link. And what key steps say of the key flow at both sides.
-use Rattle.std.proofs.Common.{Bool, eqb-true, false, if◌then◌else◌, not, refl, true, ℕ, ◌&&◌, ◌==◌, ◌||◌, ◌≡◌}
+use Rattle.std.proofs.Common.{Bool, ap, sym, eqb-true, false, if◌then◌else◌, not, refl, true, ℕ, ◌&&◌, ◌==◌, ◌||◌, ◌≡◌}
 use Rattle.pipe_model.specs.Flows.{LinkSent, on_confirm_rkey}
 use Rattle.pipe_model.specs.declared.flow.KeyPhase.TheVariants.{Asked, Free, Retry as RetryWaits}
 use Rattle.pipe_model.specs.declared.flow.FlowStep.TheVariants.{Confirmed, Live}
@@ -8,7 +8,7 @@ use Rattle.history_laws.specs.Words.{A, Abandoned, AddKeys, AddLink, AddSeen, Ad
 -- what is claimed of a step that B takes, its link flow being that and the message naming that slot
 abbrev pub StepsB : LinkFlow → ℕ → FlowStep → Type 0
 StepsB link j SendKeys = j ≡ flow_slot link
-StepsB link j AskLink = (k : ℕ) × ((on : ℕ) × (link ≡ KeysSent k on))
+StepsB link j AskLink = (on : ℕ) × (link ≡ KeysSent j on)
 StepsB link j (ReplyAdd again) = ⊥
 StepsB link j step = Unit {0}
 
@@ -52,11 +52,11 @@ keys-reply : (link : LinkFlow) (j : ℕ) → StepsB link j (on_add_keys_reply j 
 keys-reply NoFlow j = tt
 keys-reply FirstContact j = tt
 keys-reply (AddSent k on) j = tt
-keys-reply (KeysSent k on) j = by (j == k)
+keys-reply (KeysSent k on) j = by (j == k) refl
   where
-    by : (b : Bool) → StepsB (KeysSent k on) j (if b then AskLink else Skip)
-    by true = (k, (on, refl))
-    by false = tt
+    by : (b : Bool) → (j == k) ≡ b → StepsB (KeysSent k on) j (if b then AskLink else Skip)
+    by true e = (on, ap (λ i. KeysSent i on) (sym (eqb-true j k e)))
+    by false e = tt
 keys-reply (LinkSent k) j = tt
 keys-reply (Abandoned on) j = tt
 keys-reply (AddSeen k) j = tt

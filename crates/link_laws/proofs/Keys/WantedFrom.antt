@@ -4,7 +4,7 @@ use Rattle.pipe_model.specs.Flows.{after_answer}
 use Rattle.pipe_model.specs.Fabric.{does}
 use Rattle.pipe_model.specs.declared.flow.FlowStep.TheVariants.{Answered, Confirmed, Live}
 use Rattle.smc_num.specs.declared.LinkPhase.TheVariants.{Live as LiveLink}
-use Rattle.history_laws.specs.Words.{A, Act, AddKeys, AddLink, AskLink, B, ConfirmLink, ConfirmRkey, DeleteLink, DeleteRkey, Echo, Entry, Fabric, Flow, FlowStep, Forget, Gone, Known, Learn, LinkId, LlcMessage, Offer, Over, Peer, Pending, Reject, ReplyAdd, ReplyKeys, ReplyRetry, Retry, SendKeys, Side, Skip, TestLink, Withdraw, act_in, begins_group, fabric, flow_after, flow_slot, is_live, is_whole, link_at, llc_step, lowest_live, makes, named_slot, peer, phase_at, put, reports, set_phase, table_of, view_of, with_peer}
+use Rattle.history_laws.specs.Words.{A, Act, AddKeys, AddLink, AskLink, B, ConfirmLink, ConfirmRkey, DeleteLink, DeleteRkey, Echo, Entry, Fabric, Flow, FlowStep, Forget, Gone, Known, Learn, LinkId, LlcMessage, Offer, Over, Peer, Pending, Reject, ReplyAdd, ReplyKeys, ReplyRetry, Retry, SendKeys, Side, Skip, TestLink, Withdraw, act_in, begins_group, fabric, flow_after, is_live, is_whole, link_at, llc_step, lowest_live, makes, named_slot, peer, phase_at, put, reports, set_phase, table_of, view_of, with_peer}
 use Rattle.history_laws.proofs.Basics.{none-is, or-left, or-parts, or-true, some-is}
 use Rattle.link_laws.specs.Covered.{NowBegun, NowMade, NowTold, OwedByFlows, Wanted, WasWanted, wants_keys}
 use Rattle.link_laws.proofs.Keys.Wanted.{WasSo, flows-so, loses-so, reports-so}
@@ -141,12 +141,12 @@ module _ (e : Entry) (past : List Entry) (j : ℕ) (owed : OwedByFlows e past) w
     where
       told : P (does B l m SendKeys f)
       told A k at w = WasWanted at w
-      told B k at w = elim (or-parts (is_live (phase_at j f.b.table)) (flow_slot f.b.flow.link == j) w) [
+      told B k at w = elim (or-parts (is_live (phase_at j f.b.table)) (named_slot m l.slot == j) w) [
         | inl h ↦ WasWanted at (or-left (is_live (phase_at j f.b.table)) (is_keyed j f.b.flow.link) h)
-        | inr h ↦ NowTold (record { act = record { link = l; message = m; step = SendKeys }; is = is; does = refl }) (s ∙ eqb-true (flow_slot f.b.flow.link) j h)
+        | inr h ↦ NowTold (record { act = record { link = l; message = m; step = SendKeys }; is = is; does = refl }) (eqb-true (named_slot m l.slot) j h)
       ]
   taken-b l m Over is s = flow-b _ never
-  taken-b l m AskLink is s = flow-b _ (λ h. ap (λ k. is_keyed j k) s.1.1 ∙ (ap (λ k. flow_slot k == j) (sym s.1.1) ∙ h))
+  taken-b l m AskLink is s = flow-b _ (λ h. ap (λ k. is_keyed j k) s.1 ∙ h)
   taken-b l m (ReplyKeys known) is s = flow-b _ (λ h. h)
   taken-b l m (ReplyAdd again) is s = absurd s
   taken-b l m Reject is s = flow-b _ (λ h. h)

@@ -7,7 +7,7 @@ use Rattle.pipe_model.specs.declared.flow.KeyPhase.TheVariants.{Asked, Free, Ret
 use Rattle.pipe_model.specs.Fabric.{loses}
 use Rattle.std.proofs.lemmas.Bool.{ne_eqb}
 use Rattle.smc_num.specs.declared.LinkPhase.TheVariants.{Live as LiveLink}
-use Rattle.history_laws.specs.Words.{Dead, Deleting, Entry, Flow, Key, KeyPhase, LinkId, Llc, LlcMessage, Peer, Post, Side, TestLink, all_dead, deleting_rmbs, ends_group, fabric, flow_of, goes_on, is_asked, is_dead, is_deleting, is_standing, key_again, keys_of, link_or_none, loss_posts, lowest_live, peer, phase_at, resends_key, set_phase, stands, table_of, without_slot}
+use Rattle.history_laws.specs.Words.{Dead, Deleting, Entry, Flow, Key, KeyPhase, LinkId, Llc, LlcMessage, Peer, Post, Side, TestLink, all_dead, deleting_rmbs, ends_group, fabric, flow_of, goes_on, is_asked, is_dead, is_deleting, is_standing, key_again, keys_of, link_or_none, loss_posts, lowest_live, peer, phase_at, resends_key, set_phase, stands, table_of, without_slot, Setup}
 use Rattle.history_laws.proofs.Basics.{and-both, same-self, some-is}
 use Rattle.link_laws.specs.Linked.{AreFlowing, AreLinked, IsOwn, Under, phases}
 use Rattle.link_laws.specs.KeyFlows.{HasKeys, is_key_of, key_fits, key_kind}
@@ -68,29 +68,29 @@ module _ (x : Side) (past : List Entry) (flows : HasFlows past) (all : HasKeys x
   -- a side loses the link of a slot
   module _ (k : ℕ) (mine : Bool) (gone : (l : LinkId) → is_dead l past ≡ false → l.slot ≡ k → ⊥) where
     -- it posts a message of its key flow only where nothing of it is under way
-    pub keys-loss-free : (kind_in (key_kind x) (loss_posts x k mine (loses k (peer x (fabric past))) (flow_of x past) past) ≡ None) ⊎ (all.under ≡ None)
-    keys-loss-free = by (resends_key k (flow_of x past)) refl
+    pub keys-loss-free : (setup : Setup) → (kind_in (key_kind x) (loss_posts setup x k mine (loses k (peer x (fabric past))) (flow_of x past) past) ≡ None) ⊎ (all.under ≡ None)
+    keys-loss-free setup = by (resends_key k (flow_of x past)) refl
       where
         flat : (b : Bool) → either_none b ≡ None
         flat true = refl
         flat false = refl
 
-        by : (b : Bool) → resends_key k (flow_of x past) ≡ b → (kind_in (key_kind x) (loss_posts x k mine (loses k (peer x (fabric past))) (flow_of x past) past) ≡ None) ⊎ (all.under ≡ None)
-        by false e = inl (keys-loss x x k mine (loses k (peer x (fabric past))) (flow_of x past) past
-            ∙ (ap (λ b. if (loses k (peer x (fabric past))).group == 0 then None else kind_in (key_kind x) (if b then key_again x (loses k (peer x (fabric past))) (keys_of x past).keys (deleting_rmbs x past) (flow_of x past).key ∷ [] else [])) e
+        by : (b : Bool) → resends_key k (flow_of x past) ≡ b → (kind_in (key_kind x) (loss_posts setup x k mine (loses k (peer x (fabric past))) (flow_of x past) past) ≡ None) ⊎ (all.under ≡ None)
+        by false e = inl (keys-loss x x k mine (loses k (peer x (fabric past))) setup (flow_of x past) past
+            ∙ (ap (λ b. if (loses k (peer x (fabric past))).group == 0 then None else kind_in (key_kind x) (if b then key_again x (loses k (peer x (fabric past))) (keys_of x past).keys (deleting_rmbs setup x past) (flow_of x past).key ∷ [] else [])) e
             ∙ flat ((loses k (peer x (fabric past))).group == 0)))
         by true e = inr (keys-again-none k e gone)
 
     -- what is under way after the loss, on a link that stands, fits the flow after it
-    pub keys-loss-fits : (w : Under) → option_or (kind_in (key_kind x) (loss_posts x k mine (loses k (peer x (fabric past))) (flow_of x past) past)) all.under ≡ Some w → stands w.link (loses k (peer x (fabric past))).table ≡ true → key_fits w.link.slot w.message (loses k (peer x (fabric past))).flow ≡ true
-    keys-loss-fits w e s = by (lowest_live (set_phase k Dead (table_of x past)) == 0) refl (ap (λ o. option_or o all.under) (sym (keys-loss x x k mine (loses k (peer x (fabric past))) (flow_of x past) past)) ∙ e) s
+    pub keys-loss-fits : (setup : Setup) (w : Under) → option_or (kind_in (key_kind x) (loss_posts setup x k mine (loses k (peer x (fabric past))) (flow_of x past) past)) all.under ≡ Some w → stands w.link (loses k (peer x (fabric past))).table ≡ true → key_fits w.link.slot w.message (loses k (peer x (fabric past))).flow ≡ true
+    keys-loss-fits setup w e s = by (lowest_live (set_phase k Dead (table_of x past)) == 0) refl (ap (λ o. option_or o all.under) (sym (keys-loss x x k mine (loses k (peer x (fabric past))) setup (flow_of x past) past)) ∙ e) s
       where
         by : (b : Bool) → (lowest_live (set_phase k Dead (table_of x past)) == 0) ≡ b
-            → option_or (if Peer.group (if b then ends_group (without_slot k (peer x (fabric past))) else goes_on k (without_slot k (peer x (fabric past)))) == 0 then None else kind_in (key_kind x) (key_part x x k mine (if b then ends_group (without_slot k (peer x (fabric past))) else goes_on k (without_slot k (peer x (fabric past)))) (flow_of x past) past)) all.under ≡ Some w
+            → option_or (if Peer.group (if b then ends_group (without_slot k (peer x (fabric past))) else goes_on k (without_slot k (peer x (fabric past)))) == 0 then None else kind_in (key_kind x) (key_part x x k mine (if b then ends_group (without_slot k (peer x (fabric past))) else goes_on k (without_slot k (peer x (fabric past)))) setup (flow_of x past) past)) all.under ≡ Some w
             → stands w.link (Peer.table (if b then ends_group (without_slot k (peer x (fabric past))) else goes_on k (without_slot k (peer x (fabric past))))) ≡ true
             → key_fits w.link.slot w.message (Peer.flow (if b then ends_group (without_slot k (peer x (fabric past))) else goes_on k (without_slot k (peer x (fabric past))))) ≡ true
         by true f e s = absurd (true-not-false (stands w.link (all_dead (set_phase k Dead (table_of x past)))) s (none-stands w.link (all_dead (set_phase k Dead (table_of x past))) (all-none (set_phase k Dead (table_of x past)))))
-        by false f e s = again (resends_key k (flow_of x past)) refl (ap (λ b. option_or (if b then None else kind_in (key_kind x) (key_part x x k mine (goes_on k (without_slot k (peer x (fabric past)))) (flow_of x past) past)) all.under) (sym (ne_eqb (peer x (fabric past)).group 0 (λ z. was.0 z))) ∙ e)
+        by false f e s = again (resends_key k (flow_of x past)) refl (ap (λ b. option_or (if b then None else kind_in (key_kind x) (key_part x x k mine (goes_on k (without_slot k (peer x (fabric past)))) setup (flow_of x past) past)) all.under) (sym (ne_eqb (peer x (fabric past)).group 0 (λ z. was.0 z))) ∙ e)
           where
             was : ((peer x (fabric past)).group ≢ 0) × AreFlowing x (phases (peer x (fabric past))) (flow_of x past)
             was = was-going x k (peer x (fabric past)) own f
@@ -102,11 +102,11 @@ module _ (x : Side) (past : List Entry) (flows : HasFlows past) (all : HasKeys x
             slot = slot-of (lowest_live (set_phase k Dead (table_of x past))) (set_phase k Dead (table_of x past)) (ap is_standing low.1)
 
             again : (b : Bool) → resends_key k (flow_of x past) ≡ b
-                → option_or (kind_in (key_kind x) (if b then key_again x (goes_on k (without_slot k (peer x (fabric past)))) (keys_of x past).keys (deleting_rmbs x past) (flow_of x past).key ∷ [] else [])) all.under ≡ Some w
+                → option_or (kind_in (key_kind x) (if b then key_again x (goes_on k (without_slot k (peer x (fabric past)))) (keys_of x past).keys (deleting_rmbs setup x past) (flow_of x past).key ∷ [] else [])) all.under ≡ Some w
                 → key_fits w.link.slot w.message (lost k (lowest_live (set_phase k Dead (table_of x past))) (flow_of x past)) ≡ true
             again false r e = let st = stood k w.link (table_of x past) (after-rises x k (peer x (fabric past)) own) s in key-lost k (lowest_live (set_phase k Dead (table_of x past))) (flow_of x past) w.link.slot w.message st.0 (all.fits w e)
-            again true r e = again-some x (goes_on k (without_slot k (peer x (fabric past)))) (keys_of x past).keys (deleting_rmbs x past) k (flow_of x past) (lowest_live (set_phase k Dead (table_of x past))) slot (flow_of x past).key refl r w
-                (first (kind_in (key_kind x) (key_again x (goes_on k (without_slot k (peer x (fabric past)))) (keys_of x past).keys (deleting_rmbs x past) (flow_of x past).key ∷ [])) (ap (λ u. option_or (kind_in (key_kind x) (key_again x (goes_on k (without_slot k (peer x (fabric past)))) (keys_of x past).keys (deleting_rmbs x past) (flow_of x past).key ∷ [])) u) (sym (keys-again-none k r gone)) ∙ e))
+            again true r e = again-some x (goes_on k (without_slot k (peer x (fabric past)))) (keys_of x past).keys (deleting_rmbs setup x past) k (flow_of x past) (lowest_live (set_phase k Dead (table_of x past))) slot (flow_of x past).key refl r w
+                (first (kind_in (key_kind x) (key_again x (goes_on k (without_slot k (peer x (fabric past)))) (keys_of x past).keys (deleting_rmbs setup x past) (flow_of x past).key ∷ [])) (ap (λ u. option_or (kind_in (key_kind x) (key_again x (goes_on k (without_slot k (peer x (fabric past)))) (keys_of x past).keys (deleting_rmbs setup x past) (flow_of x past).key ∷ [])) u) (sym (keys-again-none k r gone)) ∙ e))
               where
                 first : (o : Option Under) → option_or o None ≡ Some w → o ≡ Some w
                 first None e = e

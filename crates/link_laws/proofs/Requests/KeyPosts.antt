@@ -212,35 +212,35 @@ module _ (x z : Side) (k : ℕ) (own : Bool) (p : Peer) where
   key-one keys rmbs phase false = tt
 
   -- the key request posted again
-  abbrev pub key_part : Flow → List Entry → List Post
-  key_part before past = if resends_key k before then key_again z p (keys_of z past).keys (deleting_rmbs z past) before.key ∷ [] else []
+  abbrev pub key_part : (setup : Setup) → Flow → List Entry → List Post
+  key_part setup before past = if resends_key k before then key_again z p (keys_of z past).keys (deleting_rmbs setup z past) before.key ∷ [] else []
 
   -- a loss posts one message of a key flow at most
-  pub keys-loss-one : (before : Flow) (past : List Entry) → HasOneOf (key_kind x) (loss_posts z k own p before past)
-  keys-loss-one before past = by (p.group == 0)
+  pub keys-loss-one : (setup : Setup) (before : Flow) (past : List Entry) → HasOneOf (key_kind x) (loss_posts setup z k own p before past)
+  keys-loss-one setup before past = by (p.group == 0)
     where
-      by : (b : Bool) → HasOneOf (key_kind x) (if b then [] else (drop_posts z k own p ++ key_part before past) ++ (if resends_add k before.link then add_again z p (keys_of z past) (pair_on z (flow_slot before.link) past) before.link else []))
+      by : (b : Bool) → HasOneOf (key_kind x) (if b then [] else (drop_posts z k own p ++ key_part setup before past) ++ (if resends_add k before.link then add_again z p (keys_of z past) (pair_on z (flow_slot before.link) past) before.link else []))
       by true = tt
-      by false = one-append (key_kind x) (drop_posts z k own p ++ key_part before past) _
-          (one-append (key_kind x) (drop_posts z k own p) _ drop-one (key-one (keys_of z past).keys (deleting_rmbs z past) before.key (resends_key k before)) (inl drop-none))
+      by false = one-append (key_kind x) (drop_posts z k own p ++ key_part setup before past) _
+          (one-append (key_kind x) (drop_posts z k own p) _ drop-one (key-one (keys_of z past).keys (deleting_rmbs setup z past) before.key (resends_key k before)) (inl drop-none))
           (add-one (keys_of z past) (pair_on z (flow_slot before.link) past) before.link (resends_add k before.link))
           (inr (add-none (keys_of z past) (pair_on z (flow_slot before.link) past) before.link (resends_add k before.link)))
 
   -- and that is the request posted again
-  pub keys-loss : (before : Flow) (past : List Entry) → kind_in (key_kind x) (loss_posts z k own p before past) ≡ (if p.group == 0 then None else kind_in (key_kind x) (key_part before past))
-  keys-loss before past = by (p.group == 0)
+  pub keys-loss : (setup : Setup) (before : Flow) (past : List Entry) → kind_in (key_kind x) (loss_posts setup z k own p before past) ≡ (if p.group == 0 then None else kind_in (key_kind x) (key_part setup before past))
+  keys-loss setup before past = by (p.group == 0)
     where
       last : (o : Option Under) → option_or o None ≡ o
       last None = refl
       last (Some w) = refl
 
-      by : (b : Bool) → kind_in (key_kind x) (if b then [] else (drop_posts z k own p ++ key_part before past) ++ (if resends_add k before.link then add_again z p (keys_of z past) (pair_on z (flow_slot before.link) past) before.link else [])) ≡ (if b then None else kind_in (key_kind x) (key_part before past))
+      by : (b : Bool) → kind_in (key_kind x) (if b then [] else (drop_posts z k own p ++ key_part setup before past) ++ (if resends_add k before.link then add_again z p (keys_of z past) (pair_on z (flow_slot before.link) past) before.link else [])) ≡ (if b then None else kind_in (key_kind x) (key_part setup before past))
       by true = refl
       by false =
-          kind-append (key_kind x) (drop_posts z k own p ++ key_part before past) _
-          ∙ (ap (λ o. option_or (kind_in (key_kind x) (drop_posts z k own p ++ key_part before past)) o) (add-none (keys_of z past) (pair_on z (flow_slot before.link) past) before.link (resends_add k before.link))
-          ∙ (last (kind_in (key_kind x) (drop_posts z k own p ++ key_part before past))
-          ∙ (kind-append (key_kind x) (drop_posts z k own p) (key_part before past) ∙ ap (λ o. option_or o (kind_in (key_kind x) (key_part before past))) drop-none)))
+          kind-append (key_kind x) (drop_posts z k own p ++ key_part setup before past) _
+          ∙ (ap (λ o. option_or (kind_in (key_kind x) (drop_posts z k own p ++ key_part setup before past)) o) (add-none (keys_of z past) (pair_on z (flow_slot before.link) past) before.link (resends_add k before.link))
+          ∙ (last (kind_in (key_kind x) (drop_posts z k own p ++ key_part setup before past))
+          ∙ (kind-append (key_kind x) (drop_posts z k own p) (key_part setup before past) ∙ ap (λ o. option_or o (kind_in (key_kind x) (key_part setup before past))) drop-none)))
 
 -- the request that a side posts again is of its own key flow
 pub again-is : (x : Side) (p : Peer) (keys : List Key) (rmbs : List ℕ) (phase : KeyPhase) → kind_of (key_kind (other x)) (key_again x p keys rmbs phase) ≡ None

@@ -234,28 +234,28 @@ module _ (setup : Setup) (payload : List ℕ) (past : List Entry) (flows : HasFl
       (ap (λ (p : Peer). p.flow.key) now, ap (λ (p : Peer). p.flow.on) now))
 
   -- a side reports a link, with these posts
-  loss-of : (event : Event) (reply : Reply) (y : Side) (slot : ℕ) (ps : List Post) → ((y : Side) (k : ℕ) → leaves y k event reply ≡ 0) → dead_at slot (table_of y past) past ≡ true → ps ≡ report_posts y slot true past
+  loss-of : (event : Event) (reply : Reply) (y : Side) (slot : ℕ) (ps : List Post) → ((y : Side) (k : ℕ) → leaves y k event reply ≡ 0) → dead_at slot (table_of y past) past ≡ true → ps ≡ report_posts setup y slot true past
       → ((actor : ℕ) (cs : List Post) → fabric (entry_of actor event reply (ps ++ cs) ∷ past) ≡ with_peer y (reports slot (peer y (fabric past))) (fabric past)) → KeyDraft x past all.under event reply ps
   loss-of event reply y slot ps none dead is fab = by (either-side x y)
     where
       at-own : y ≡ x → KeyDraft x past all.under event reply ps
       at-own e =
-          let posts : ps ≡ report_posts x slot true past = is ∙ ap (λ y. report_posts y slot true past) e in
+          let posts : ps ≡ report_posts setup x slot true past = is ∙ ap (λ y. report_posts setup y slot true past) e in
           let gone = gone-here past flows x slot (ap (λ y. dead_at slot (table_of y past) past) (sym e) ∙ dead) in
           let like = report-like slot (peer x (fabric past)) in
           moved-own event reply ps (reports slot (peer x (fabric past))) none
-          (subst (λ ps. HasOneOf (key_kind x) ps) (sym posts) (keys-loss-one x x slot true (loses slot (peer x (fabric past))) (flow_of x past) past))
-          (subst (λ ps. (kind_in (key_kind x) ps ≡ None) ⊎ (all.under ≡ None)) (sym posts) (keys-loss-free x past flows all slot true gone))
+          (subst (λ ps. HasOneOf (key_kind x) ps) (sym posts) (keys-loss-one x x slot true (loses slot (peer x (fabric past))) setup (flow_of x past) past))
+          (subst (λ ps. (kind_in (key_kind x) ps ≡ None) ⊎ (all.under ≡ None)) (sym posts) (keys-loss-free x past flows all slot true gone setup))
           (λ actor cs. fab actor cs ∙ ap (λ y. with_peer y (reports slot (peer y (fabric past))) (fabric past)) e)
           (λ w f s. key-like w.link.slot w.message (reports slot (peer x (fabric past))).flow (loses slot (peer x (fabric past))).flow like.0 like.1
-          ∙ keys-loss-fits x past flows all slot true gone w (ap (λ ps. option_or (kind_in (key_kind x) ps) all.under) (sym posts) ∙ f) (ap (λ ks. stands w.link ks) (sym like.2) ∙ s))
+          ∙ keys-loss-fits x past flows all slot true gone setup w (ap (λ ps. option_or (kind_in (key_kind x) ps) all.under) (sym posts) ∙ f) (ap (λ ks. stands w.link ks) (sym like.2) ∙ s))
 
       at-other : y ≡ other x → KeyDraft x past all.under event reply ps
       at-other e =
-          let posts : ps ≡ report_posts (other x) slot true past = is ∙ ap (λ y. report_posts y slot true past) e in
+          let posts : ps ≡ report_posts setup (other x) slot true past = is ∙ ap (λ y. report_posts setup y slot true past) e in
           moved-other event reply ps (reports slot (peer (other x) (fabric past))) none
-          (subst (λ ps. HasOneOf (key_kind x) ps) (sym posts) (keys-loss-one x (other x) slot true (loses slot (peer (other x) (fabric past))) (flow_of (other x) past) past))
-          (ap (kind_in (key_kind x)) posts ∙ beside-loss x slot true (loses slot (peer (other x) (fabric past))) (flow_of (other x) past) past)
+          (subst (λ ps. HasOneOf (key_kind x) ps) (sym posts) (keys-loss-one x (other x) slot true (loses slot (peer (other x) (fabric past))) setup (flow_of (other x) past) past))
+          (ap (kind_in (key_kind x)) posts ∙ beside-loss setup x slot true (loses slot (peer (other x) (fabric past))) (flow_of (other x) past) past)
           (λ actor cs. fab actor cs ∙ ap (λ y. with_peer y (reports slot (peer y (fabric past))) (fabric past)) e)
 
       by : (y ≡ x) ⊎ (y ≡ other x) → KeyDraft x past all.under event reply ps
@@ -271,7 +271,7 @@ module _ (setup : Setup) (payload : List ℕ) (past : List Entry) (flows : HasFl
       by false d g e f = quiet (Report y slot) Idle [] (λ x k. refl) (λ actor posts. refl) tt
       by true false g e f = quiet (Report y slot) Idle [] (λ x k. refl) (λ actor posts. refl) tt
       by true true true e f = loss-of (Report y slot) (GroupEnded (peer_of y past).group) y slot [] (λ x k. refl) e (no-loss ((loses slot (peer_of y past)).group == 0) _ f) (λ actor cs. refl)
-      by true true false e f = loss-of (Report y slot) Done y slot (report_posts y slot true past) (λ x k. refl) e refl (λ actor cs. refl)
+      by true true false e f = loss-of (Report y slot) Done y slot (report_posts setup y slot true past) (λ x k. refl) e refl (λ actor cs. refl)
 
   -- while no key request is out nothing is under way
   idle-none : is_asked (flow_of x past).key ≡ false → is_deleting (flow_of x past).key ≡ false → all.under ≡ None

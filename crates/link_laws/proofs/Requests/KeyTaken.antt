@@ -61,15 +61,15 @@ flow-beside A l m step f = (ap (λ (f : Flow). f.key) (flow-other B l m step f),
 flow-beside B l m step f = (ap (λ (f : Flow). f.key) (flow-other A l m step f), ap (λ (f : Flow). f.on) (flow-other A l m step f))
 
 -- the other side's loss posts nothing of this side's key flow
-pub beside-loss : (x : Side) (k : ℕ) (mine : Bool) (p : Peer) (before : Flow) (past : List Entry) → kind_in (key_kind x) (loss_posts (other x) k mine p before past) ≡ None
-beside-loss x k mine p before past = keys-loss x (other x) k mine p before past ∙ by (p.group == 0) (Rattle.pipe_model.specs.Flows.resends_key k before)
+pub beside-loss : (setup : Setup) (x : Side) (k : ℕ) (mine : Bool) (p : Peer) (before : Flow) (past : List Entry) → kind_in (key_kind x) (loss_posts setup (other x) k mine p before past) ≡ None
+beside-loss setup x k mine p before past = keys-loss x (other x) k mine p setup before past ∙ by (p.group == 0) (Rattle.pipe_model.specs.Flows.resends_key k before)
   where
-    at : (x : Side) → (b : Bool) → kind_in (key_kind x) (if b then key_again (other x) p (Rattle.pipe_model.specs.Keys.keys_of (other x) past).keys (Rattle.pipe_model.specs.Posts.deleting_rmbs (other x) past) before.key ∷ [] else []) ≡ None
-    at A true = ap (λ o. option_or o None) (again-is B p (Rattle.pipe_model.specs.Keys.keys_of B past).keys (Rattle.pipe_model.specs.Posts.deleting_rmbs B past) before.key)
-    at B true = ap (λ o. option_or o None) (again-is A p (Rattle.pipe_model.specs.Keys.keys_of A past).keys (Rattle.pipe_model.specs.Posts.deleting_rmbs A past) before.key)
+    at : (x : Side) → (b : Bool) → kind_in (key_kind x) (if b then key_again (other x) p (Rattle.pipe_model.specs.Keys.keys_of (other x) past).keys (Rattle.pipe_model.specs.Posts.deleting_rmbs setup (other x) past) before.key ∷ [] else []) ≡ None
+    at A true = ap (λ o. option_or o None) (again-is B p (Rattle.pipe_model.specs.Keys.keys_of B past).keys (Rattle.pipe_model.specs.Posts.deleting_rmbs setup B past) before.key)
+    at B true = ap (λ o. option_or o None) (again-is A p (Rattle.pipe_model.specs.Keys.keys_of A past).keys (Rattle.pipe_model.specs.Posts.deleting_rmbs setup A past) before.key)
     at x false = refl
 
-    by : (b c : Bool) → (if b then None else kind_in (key_kind x) (if c then key_again (other x) p (Rattle.pipe_model.specs.Keys.keys_of (other x) past).keys (Rattle.pipe_model.specs.Posts.deleting_rmbs (other x) past) before.key ∷ [] else [])) ≡ None
+    by : (b c : Bool) → (if b then None else kind_in (key_kind x) (if c then key_again (other x) p (Rattle.pipe_model.specs.Keys.keys_of (other x) past).keys (Rattle.pipe_model.specs.Posts.deleting_rmbs setup (other x) past) before.key ∷ [] else [])) ≡ None
     by true c = refl
     by false c = at x c
 
@@ -102,7 +102,7 @@ module _ (setup : Setup) (past : List Entry) (flows : HasFlows past) (l : LinkId
     delete-reply-other negative count mask keys RetryWaits = no-posts (DeleteRkey true negative count mask keys) Skip refl
 
     gone-other : (every orderly : Bool) (k reason : ℕ) (b : Bool) → LandsKey setup x (other x) past l (DeleteLink false every orderly k reason) (Gone b) all.under
-    gone-other every orderly k reason true = plain-other (DeleteLink false every orderly k reason) (Gone true) (inl refl, keys-loss-one x (other x) k false (loses k (peer (other x) (fabric past))) (flow_of (other x) past) past) (beside-loss x k false (loses k (peer (other x) (fabric past))) (flow_of (other x) past) past)
+    gone-other every orderly k reason true = plain-other (DeleteLink false every orderly k reason) (Gone true) (inl refl, keys-loss-one x (other x) k false (loses k (peer (other x) (fabric past))) setup (flow_of (other x) past) past) (beside-loss setup x k false (loses k (peer (other x) (fabric past))) (flow_of (other x) past) past)
     gone-other every orderly k reason false = plain-other (DeleteLink false every orderly k reason) (Gone false) (inl refl, tt) refl
 
     key-fits-now : (m : LlcMessage) → all.under ≡ Some (record { from = x; link = l; message = m }) → key_fits l.slot m (flow_of x past) ≡ true
@@ -156,9 +156,9 @@ module _ (setup : Setup) (past : List Entry) (flows : HasFlows past) (l : LinkId
   gone-own A all every orderly k reason false e = plain setup past flows A all l A (DeleteLink false every orderly k reason) (Gone false) (inl refl, tt) refl (refl, refl)
   gone-own B all every orderly k reason false e = plain setup past flows B all l B (DeleteLink false every orderly k reason) (Gone false) (inl refl, tt) refl (refl, refl)
   gone-own A all every orderly k reason true e = record {
-    one = (inl refl, keys-loss-one A A k false (loses k (peer A (fabric past))) (flow_of A past) past);
-    free = keys-loss-free A past flows all k false (gone-there past flows B k (not-there (is_standing (phase_at k (table_of A past))) (is_standing (phase_at k (table_of B past))) e));
-    fits = keys-loss-fits A past flows all k false (gone-there past flows B k (not-there (is_standing (phase_at k (table_of A past))) (is_standing (phase_at k (table_of B past))) e));
+    one = (inl refl, keys-loss-one A A k false (loses k (peer A (fabric past))) setup (flow_of A past) past);
+    free = keys-loss-free A past flows all k false (gone-there past flows B k (not-there (is_standing (phase_at k (table_of A past))) (is_standing (phase_at k (table_of B past))) e)) setup;
+    fits = keys-loss-fits A past flows all k false (gone-there past flows B k (not-there (is_standing (phase_at k (table_of A past))) (is_standing (phase_at k (table_of B past))) e)) setup;
   }
     where
       not-there : (a b : Bool) → (a && not b) ≡ true → b ≡ false
@@ -166,9 +166,9 @@ module _ (setup : Setup) (past : List Entry) (flows : HasFlows past) (l : LinkId
       not-there true true e = absurd (true≢false (sym e))
       not-there false true e = absurd (true≢false (sym e))
   gone-own B all every orderly k reason true e = record {
-    one = (inl refl, keys-loss-one B B k false (loses k (peer B (fabric past))) (flow_of B past) past);
-    free = keys-loss-free B past flows all k false (gone-there past flows A k (not-there (is_standing (phase_at k (table_of B past))) (is_standing (phase_at k (table_of A past))) e));
-    fits = keys-loss-fits B past flows all k false (gone-there past flows A k (not-there (is_standing (phase_at k (table_of B past))) (is_standing (phase_at k (table_of A past))) e));
+    one = (inl refl, keys-loss-one B B k false (loses k (peer B (fabric past))) setup (flow_of B past) past);
+    free = keys-loss-free B past flows all k false (gone-there past flows A k (not-there (is_standing (phase_at k (table_of B past))) (is_standing (phase_at k (table_of A past))) e)) setup;
+    fits = keys-loss-fits B past flows all k false (gone-there past flows A k (not-there (is_standing (phase_at k (table_of B past))) (is_standing (phase_at k (table_of A past))) e)) setup;
   }
     where
       not-there : (a b : Bool) → (a && not b) ≡ true → b ≡ false

@@ -165,15 +165,15 @@ module _ (setup : Setup) (payload : List ℕ) (past : List Entry) (flows : HasFl
       ap (λ (p : Peer). p.flow.tests) now)
 
   -- a side reports a link, with these posts
-  loss-of : (event : Event) (reply : Reply) (y : Side) (slot : ℕ) (ps : List Post) → ((y : Side) (k : ℕ) → leaves y k event reply ≡ 0) → dead_at slot (table_of y past) past ≡ true → ps ≡ report_posts y slot true past
+  loss-of : (event : Event) (reply : Reply) (y : Side) (slot : ℕ) (ps : List Post) → ((y : Side) (k : ℕ) → leaves y k event reply ≡ 0) → dead_at slot (table_of y past) past ≡ true → ps ≡ report_posts setup y slot true past
       → ((actor : ℕ) (cs : List Post) → fabric (entry_of actor event reply (ps ++ cs) ∷ past) ≡ with_peer y (reports slot (peer y (fabric past))) (fabric past)) → TestDraft x n past all.under event reply ps
   loss-of event reply y slot ps none dead is fab = by (either-side x y)
     where
       at-own : y ≡ x → TestDraft x n past all.under event reply ps
       at-own e =
-          let posts : ps ≡ report_posts x slot true past = is ∙ ap (λ y. report_posts y slot true past) e in
+          let posts : ps ≡ report_posts setup x slot true past = is ∙ ap (λ y. report_posts setup y slot true past) e in
           let like = report-like slot (peer x (fabric past)) in
-          let quiet = test-loss x n x slot true (loses slot (peer x (fabric past))) (flow_of x past) past in
+          let quiet = test-loss x n x slot true (loses slot (peer x (fabric past))) setup (flow_of x past) past in
           moved-own event reply ps (reports slot (peer x (fabric past))) none
           (subst (λ ps. HasOneOf (test_kind x n) ps) (sym posts) quiet.1)
           (inl (ap (kind_in (test_kind x n)) posts ∙ quiet.0))
@@ -183,8 +183,8 @@ module _ (setup : Setup) (payload : List ℕ) (past : List Entry) (flows : HasFl
 
       at-other : y ≡ other x → TestDraft x n past all.under event reply ps
       at-other e =
-          let posts : ps ≡ report_posts (other x) slot true past = is ∙ ap (λ y. report_posts y slot true past) e in
-          let quiet = test-loss x n (other x) slot true (loses slot (peer (other x) (fabric past))) (flow_of (other x) past) past in
+          let posts : ps ≡ report_posts setup (other x) slot true past = is ∙ ap (λ y. report_posts setup y slot true past) e in
+          let quiet = test-loss x n (other x) slot true (loses slot (peer (other x) (fabric past))) setup (flow_of (other x) past) past in
           moved-other event reply ps (reports slot (peer (other x) (fabric past))) none
           (subst (λ ps. HasOneOf (test_kind x n) ps) (sym posts) quiet.1)
           (ap (kind_in (test_kind x n)) posts ∙ quiet.0)
@@ -203,7 +203,7 @@ module _ (setup : Setup) (payload : List ℕ) (past : List Entry) (flows : HasFl
       by false d g e f = quiet (Report y slot) Idle [] (λ x k. refl) (λ actor posts. refl) tt
       by true false g e f = quiet (Report y slot) Idle [] (λ x k. refl) (λ actor posts. refl) tt
       by true true true e f = loss-of (Report y slot) (GroupEnded (peer_of y past).group) y slot [] (λ x k. refl) e (no-loss ((loses slot (peer_of y past)).group == 0) _ f) (λ actor cs. refl)
-      by true true false e f = loss-of (Report y slot) Done y slot (report_posts y slot true past) (λ x k. refl) e refl (λ actor cs. refl)
+      by true true false e f = loss-of (Report y slot) Done y slot (report_posts setup y slot true past) (λ x k. refl) e refl (λ actor cs. refl)
 
   -- a side asks for a key, or takes keys back
   untested : (event : Event) (reply : Reply) (y : Side) (p : Post) (q : Peer) → ((y : Side) (k : ℕ) → leaves y k event reply ≡ 0) → kind_in (test_kind x n) (p ∷ []) ≡ None → q.flow.tests ≡ (flow_of y past).tests

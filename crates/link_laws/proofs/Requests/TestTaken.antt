@@ -47,22 +47,22 @@ module _ (x : Side) (n : ℕ) (z : Side) (k : ℕ) (own : Bool) (p : Peer) where
   add-none ks qp flow false = (refl, tt)
 
   -- a loss posts nothing of a test
-  pub test-loss : (before : Flow) (past : List Entry) → (kind_in (test_kind x n) (loss_posts z k own p before past) ≡ None) × HasOneOf (test_kind x n) (loss_posts z k own p before past)
-  test-loss before past = by (p.group == 0)
+  pub test-loss : (setup : Setup) (before : Flow) (past : List Entry) → (kind_in (test_kind x n) (loss_posts setup z k own p before past) ≡ None) × HasOneOf (test_kind x n) (loss_posts setup z k own p before past)
+  test-loss setup before past = by (p.group == 0)
     where
       ds : List Post
       ds = drop_posts z k own p
 
-      by : (b : Bool) → (kind_in (test_kind x n) (if b then [] else (drop_posts z k own p ++ (if resends_key k before then key_again z p (keys_of z past).keys (deleting_rmbs z past) before.key ∷ [] else [])) ++ (if resends_add k before.link then add_again z p (keys_of z past) (pair_on z (flow_slot before.link) past) before.link else [])) ≡ None)
-          × HasOneOf (test_kind x n) (if b then [] else (drop_posts z k own p ++ (if resends_key k before then key_again z p (keys_of z past).keys (deleting_rmbs z past) before.key ∷ [] else [])) ++ (if resends_add k before.link then add_again z p (keys_of z past) (pair_on z (flow_slot before.link) past) before.link else []))
+      by : (b : Bool) → (kind_in (test_kind x n) (if b then [] else (drop_posts z k own p ++ (if resends_key k before then key_again z p (keys_of z past).keys (deleting_rmbs setup z past) before.key ∷ [] else [])) ++ (if resends_add k before.link then add_again z p (keys_of z past) (pair_on z (flow_slot before.link) past) before.link else [])) ≡ None)
+          × HasOneOf (test_kind x n) (if b then [] else (drop_posts z k own p ++ (if resends_key k before then key_again z p (keys_of z past).keys (deleting_rmbs setup z past) before.key ∷ [] else [])) ++ (if resends_add k before.link then add_again z p (keys_of z past) (pair_on z (flow_slot before.link) past) before.link else []))
       by true = (refl, tt)
       by false =
           let d = drop-none (own && not (is_dropping k p.flow)) in
-          let q = key-none (keys_of z past).keys (deleting_rmbs z past) before.key (resends_key k before) in
+          let q = key-none (keys_of z past).keys (deleting_rmbs setup z past) before.key (resends_key k before) in
           let a = add-none (keys_of z past) (pair_on z (flow_slot before.link) past) before.link (resends_add k before.link) in (
-            kind-append (test_kind x n) (drop_posts z k own p ++ (if resends_key k before then key_again z p (keys_of z past).keys (deleting_rmbs z past) before.key ∷ [] else [])) _
-                ∙ (ap (λ o. option_or o (kind_in (test_kind x n) (if resends_add k before.link then add_again z p (keys_of z past) (pair_on z (flow_slot before.link) past) before.link else []))) (kind-append (test_kind x n) (drop_posts z k own p) _ ∙ (ap (λ o. option_or o (kind_in (test_kind x n) (if resends_key k before then key_again z p (keys_of z past).keys (deleting_rmbs z past) before.key ∷ [] else []))) d.0 ∙ q.0)) ∙ a.0),
-            one-append (test_kind x n) (drop_posts z k own p ++ (if resends_key k before then key_again z p (keys_of z past).keys (deleting_rmbs z past) before.key ∷ [] else [])) _ (one-append (test_kind x n) (drop_posts z k own p) _ d.1 q.1 (inl d.0)) a.1 (inr a.0),
+            kind-append (test_kind x n) (drop_posts z k own p ++ (if resends_key k before then key_again z p (keys_of z past).keys (deleting_rmbs setup z past) before.key ∷ [] else [])) _
+                ∙ (ap (λ o. option_or o (kind_in (test_kind x n) (if resends_add k before.link then add_again z p (keys_of z past) (pair_on z (flow_slot before.link) past) before.link else []))) (kind-append (test_kind x n) (drop_posts z k own p) _ ∙ (ap (λ o. option_or o (kind_in (test_kind x n) (if resends_key k before then key_again z p (keys_of z past).keys (deleting_rmbs setup z past) before.key ∷ [] else []))) d.0 ∙ q.0)) ∙ a.0),
+            one-append (test_kind x n) (drop_posts z k own p ++ (if resends_key k before then key_again z p (keys_of z past).keys (deleting_rmbs setup z past) before.key ∷ [] else [])) _ (one-append (test_kind x n) (drop_posts z k own p) _ d.1 q.1 (inl d.0)) a.1 (inr a.0),
           )
 
 -- a loss leaves the tests of other slots
@@ -249,7 +249,7 @@ module _ (setup : Setup) (past : List Entry) (flows : HasFlows past) (n : ℕ) (
     delete-reply-other negative count mask keys RetryWaits = no-posts (DeleteRkey true negative count mask keys) Skip refl
 
     gone-other : (every orderly : Bool) (k reason : ℕ) (b : Bool) → LandsTest setup x n (other x) past l (DeleteLink false every orderly k reason) (Gone b) all.under
-    gone-other every orderly k reason true = let h = test-loss x n (other x) k false (loses k (peer (other x) (fabric past))) (flow_of (other x) past) past in plain-other (DeleteLink false every orderly k reason) (Gone true) (inl refl, h.1) h.0
+    gone-other every orderly k reason true = let h = test-loss x n (other x) k false (loses k (peer (other x) (fabric past))) setup (flow_of (other x) past) past in plain-other (DeleteLink false every orderly k reason) (Gone true) (inl refl, h.1) h.0
     gone-other every orderly k reason false = plain-other (DeleteLink false every orderly k reason) (Gone false) (inl refl, tt) refl
 
   at-other : (x : Side) (all : HasTest x n past) (m : LlcMessage) → (test_kind x n (record { from = x; link = l; message = m }) ≡ true → HasTest.under all ≡ Some (record { from = x; link = l; message = m })) → LandsTest setup x n (other x) past l m (llc_step (other x) l m past (fabric past)) (left_of_test x n x l m (HasTest.under all))
@@ -309,12 +309,12 @@ module _ (setup : Setup) (past : List Entry) (flows : HasFlows past) (n : ℕ) (
   gone-here-test : (x : Side) (all : HasTest x n past) (every orderly : Bool) (k reason : ℕ) (b : Bool) → LandsTest setup x n x past l (DeleteLink false every orderly k reason) (Gone b) (HasTest.under all)
   gone-here-test A all every orderly k reason false = plain setup past flows A n all l A (DeleteLink false every orderly k reason) (Gone false) (inl refl, tt) refl refl
   gone-here-test B all every orderly k reason false = plain setup past flows B n all l B (DeleteLink false every orderly k reason) (Gone false) (inl refl, tt) refl refl
-  gone-here-test A all every orderly k reason true = let h = test-loss A n A k false (loses k (peer A (fabric past))) (flow_of A past) past in record {
+  gone-here-test A all every orderly k reason true = let h = test-loss A n A k false (loses k (peer A (fabric past))) setup (flow_of A past) past in record {
     one = (inl refl, h.1);
     free = inl h.0;
     fits = λ w e s. test-loss-fits A n past flows k w.link (all.fits w (ap (λ o. option_or o all.under) (sym h.0) ∙ e)) s;
   }
-  gone-here-test B all every orderly k reason true = let h = test-loss B n B k false (loses k (peer B (fabric past))) (flow_of B past) past in record {
+  gone-here-test B all every orderly k reason true = let h = test-loss B n B k false (loses k (peer B (fabric past))) setup (flow_of B past) past in record {
     one = (inl refl, h.1);
     free = inl h.0;
     fits = λ w e s. test-loss-fits B n past flows k w.link (all.fits w (ap (λ o. option_or o all.under) (sym h.0) ∙ e)) s;

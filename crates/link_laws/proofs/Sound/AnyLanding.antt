@@ -40,8 +40,8 @@ module _ (setup : Setup) (past : List Entry) (l : LinkId) (both : StandsAtBoth l
   delete-reply x negative count mask keys RetryWaits = same x u all
 
   deleted : (x : Side) (every orderly : Bool) (k reason : ℕ) (b : Bool) → Lands x (DeleteLink false every orderly k reason) (Gone b)
-  deleted A every orderly k reason true = loses-linked A k past u all
-  deleted B every orderly k reason true = loses-linked B k past u all
+  deleted A every orderly k reason true = loses-linked setup A k past u all
+  deleted B every orderly k reason true = loses-linked setup B k past u all
   deleted x every orderly k reason false = same x u all
 
   key-at-b : (retry negative : Bool) (others : ℕ) (tokens : List KeyToken) (b : Bool) → Lands B (ConfirmRkey false retry negative others tokens) (if b then ReplyRetry else Learn)

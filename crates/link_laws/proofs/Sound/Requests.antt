@@ -8,7 +8,7 @@ use Rattle.std.specs.Option.{option_or}
 use Rattle.pipe_model.specs.Messages.{add_keys, add_link}
 use Rattle.pipe_model.specs.Fabric.{loses}
 use Rattle.std.proofs.lemmas.Bool.{ne_eqb}
-use Rattle.history_laws.specs.Words.{A, Abandoned, AddSeen, AddSent, B, Dead, Deleting, Drop, Entry, Fabric, FirstContact, Flow, Key, KeyPhase, Keys, KeysSent, LinkFlow, LinkId, LinkPhase, Llc, NoFlow, Peer, Post, Side, add_again, begins_delete, begins_drop, begins_test, confirms_on, delete_link, deleting_rmbs, drop_posts, ends_group, fabric, flow_slot, goes_on, is_asked, is_dropping, is_standing, key_again, keys_of, link_or_none, loss_posts, lost_link, lowest_live, no_flow, pair_on, peer, phase_at, report_posts, reports, resends_add, resends_key, set_phase, with_flow, with_peer, without_slot}
+use Rattle.history_laws.specs.Words.{A, Abandoned, AddSeen, AddSent, B, Dead, Deleting, Drop, Entry, Fabric, FirstContact, Flow, Key, KeyPhase, Keys, KeysSent, LinkFlow, LinkId, LinkPhase, Llc, NoFlow, Peer, Post, Side, add_again, begins_delete, begins_drop, begins_test, confirms_on, delete_link, deleting_rmbs, drop_posts, ends_group, fabric, flow_slot, goes_on, is_asked, is_dropping, is_standing, key_again, keys_of, link_or_none, loss_posts, lost_link, lowest_live, no_flow, pair_on, peer, phase_at, report_posts, reports, resends_add, resends_key, set_phase, with_flow, with_peer, without_slot, Setup}
 use Rattle.history_laws.proofs.Basics.{and-both}
 use Rattle.link_laws.specs.Linked.{AreFlowing, AreLinked, AreLive, Begins, CarryDrops, Confirms, FitsUnder, Goes, HasNone, IsOwn, IsSound, LinkFits, Under, is_own_flow, phases, then_posted, under_in, under_of}
 use Rattle.link_laws.proofs.Sound.Frames.{answered, reflowed-a, reflowed-b}
@@ -115,13 +115,13 @@ no-key x p keys rmbs phase false = refl
 abbrev pub add_part : Side → ℕ → Peer → Flow → List Entry → List Post
 add_part x k p before past = if resends_add k before.link then add_again x p (keys_of x past) (pair_on x (flow_slot before.link) past) before.link else []
 
-pub under-loss : (x : Side) (k : ℕ) (own : Bool) (p : Peer) (before : Flow) (past : List Entry) → (p.group == 0) ≡ false → under_in (loss_posts x k own p before past) ≡ under_in (add_part x k p before past)
-under-loss x k own p before past ne =
-    ap (λ b. under_in (if b then [] else (drop_posts x k own p ++ (if resends_key k before then key_again x p (keys_of x past).keys (deleting_rmbs x past) before.key ∷ [] else [])) ++ add_part x k p before past)) ne
-    ∙ (under-append (drop_posts x k own p ++ (if resends_key k before then key_again x p (keys_of x past).keys (deleting_rmbs x past) before.key ∷ [] else [])) (add_part x k p before past)
-    ∙ (ap (λ o. option_or o (under_in (add_part x k p before past))) (under-append (drop_posts x k own p) (if resends_key k before then key_again x p (keys_of x past).keys (deleting_rmbs x past) before.key ∷ [] else []))
-    ∙ (ap (λ o. option_or (option_or o (under_in (if resends_key k before then key_again x p (keys_of x past).keys (deleting_rmbs x past) before.key ∷ [] else []))) (under_in (add_part x k p before past))) (no-drop x k own p)
-    ∙ ap (λ o. option_or o (under_in (add_part x k p before past))) (no-key x p (keys_of x past).keys (deleting_rmbs x past) before.key (resends_key k before)))))
+pub under-loss : (setup : Setup) (x : Side) (k : ℕ) (own : Bool) (p : Peer) (before : Flow) (past : List Entry) → (p.group == 0) ≡ false → under_in (loss_posts setup x k own p before past) ≡ under_in (add_part x k p before past)
+under-loss setup x k own p before past ne =
+    ap (λ b. under_in (if b then [] else (drop_posts x k own p ++ (if resends_key k before then key_again x p (keys_of x past).keys (deleting_rmbs setup x past) before.key ∷ [] else [])) ++ add_part x k p before past)) ne
+    ∙ (under-append (drop_posts x k own p ++ (if resends_key k before then key_again x p (keys_of x past).keys (deleting_rmbs setup x past) before.key ∷ [] else [])) (add_part x k p before past)
+    ∙ (ap (λ o. option_or o (under_in (add_part x k p before past))) (under-append (drop_posts x k own p) (if resends_key k before then key_again x p (keys_of x past).keys (deleting_rmbs setup x past) before.key ∷ [] else []))
+    ∙ (ap (λ o. option_or (option_or o (under_in (if resends_key k before then key_again x p (keys_of x past).keys (deleting_rmbs setup x past) before.key ∷ [] else []))) (under_in (add_part x k p before past))) (no-drop x k own p)
+    ∙ ap (λ o. option_or o (under_in (add_part x k p before past))) (no-key x p (keys_of x past).keys (deleting_rmbs setup x past) before.key (resends_key k before)))))
 
 -- the request and the keys of B as they are made
 add-fits : (f : Fabric) (l : LinkId) (k qp group : ℕ) → (k == 0) ≡ false → f.b.flow.link ≡ AddSent k l.slot → FitsUnder (record { from = B; link = l; message = add_link B false k qp group }) f
@@ -132,13 +132,13 @@ keys-fit f l on k keys rmbs e = tells-keys f l k 0 [] e
 
 -- B has lost a link, and posts its request again
 module _ (k : ℕ) (own : Bool) (past : List Entry) (f : Fabric) (u : Option Under) (was : AreLinked f u) where
-  pub reposted : (q : Peer) → Flow.link q.flow ≡ Flow.link (Peer.flow (loses k f.b)) → AreLinked (with_peer B q f) u → AreLinked (with_peer B q f) (then_posted (loss_posts B k own (loses k f.b) f.b.flow past) u)
-  reposted q same lost = by (lowest_live (set_phase k Dead f.b.table) == 0) refl same
+  pub reposted : (setup : Setup) (q : Peer) → Flow.link q.flow ≡ Flow.link (Peer.flow (loses k f.b)) → AreLinked (with_peer B q f) u → AreLinked (with_peer B q f) (then_posted (loss_posts setup B k own (loses k f.b) f.b.flow past) u)
+  reposted setup q same lost = by (lowest_live (set_phase k Dead f.b.table) == 0) refl same
     where
       Goal : Peer → Type 0
-      Goal p = AreLinked (with_peer B q f) (then_posted (loss_posts B k own p f.b.flow past) u)
+      Goal p = AreLinked (with_peer B q f) (then_posted (loss_posts setup B k own p f.b.flow past) u)
 
-      quiet : (p : Peer) → under_in (loss_posts B k own p f.b.flow past) ≡ None → AreLinked (with_peer B q f) (then_posted (loss_posts B k own p f.b.flow past) u)
+      quiet : (p : Peer) → under_in (loss_posts setup B k own p f.b.flow past) ≡ None → AreLinked (with_peer B q f) (then_posted (loss_posts setup B k own p f.b.flow past) u)
       quiet p e = subst (λ o. AreLinked (with_peer B q f) (option_or o u)) (sym e) lost
 
       again : (low : ℕ) → phase_at low (set_phase k Dead f.b.table) ≡ LiveLink → AreFlowing B (phases f.b) f.b.flow → (flow : LinkFlow) → f.b.flow.link ≡ flow → q.flow.link ≡ lost_link k low flow → (b : Bool) → resends_add k flow ≡ b → (ks : Keys) (qp : ℕ) (p : Peer) → p.table ≡ set_phase k Dead f.b.table → lowest_live p.table ≡ low
@@ -176,17 +176,17 @@ module _ (k : ℕ) (own : Bool) (past : List Entry) (f : Fabric) (u : Option Und
       again low live fl (AddSeen j) e is true r ks qp p t lows = absurd (true≢false (sym r))
 
       by : (b : Bool) → (lowest_live (set_phase k Dead f.b.table) == 0) ≡ b → q.flow.link ≡ Flow.link (Peer.flow (if b then ends_group (without_slot k f.b) else goes_on k (without_slot k f.b)))
-          → AreLinked (with_peer B q f) (then_posted (loss_posts B k own (if b then ends_group (without_slot k f.b) else goes_on k (without_slot k f.b)) f.b.flow past) u)
+          → AreLinked (with_peer B q f) (then_posted (loss_posts setup B k own (if b then ends_group (without_slot k f.b) else goes_on k (without_slot k f.b)) f.b.flow past) u)
       by true e is = lost
       by false e is =
           let g = was-going B k f.b (was.own B) e in
           let low = lowest-is 1 (set_phase k Dead f.b.table) (omega arith) (after-rises B k f.b (was.own B)) e in
-          subst (λ o. AreLinked (with_peer B q f) (option_or o u)) (sym (under-loss B k own (goes_on k (without_slot k f.b)) f.b.flow past (ne_eqb f.b.group 0 (λ z. g.0 z))))
+          subst (λ o. AreLinked (with_peer B q f) (option_or o u)) (sym (under-loss setup B k own (goes_on k (without_slot k f.b)) f.b.flow past (ne_eqb f.b.group 0 (λ z. g.0 z))))
           (again (lowest_live (set_phase k Dead f.b.table)) low.1 g.1 f.b.flow.link refl is (resends_add k f.b.flow.link) refl (keys_of B past) (pair_on B (flow_slot f.b.flow.link) past) (goes_on k (without_slot k f.b)) refl refl)
 
 -- A posts nothing of the link flow again
-pub quiet-a : (k : ℕ) (own : Bool) (past : List Entry) (f : Fabric) (u : Option Under) → AreLinked f u → (q : Peer) → AreLinked (with_peer A q f) u → AreLinked (with_peer A q f) (then_posted (loss_posts A k own (loses k f.a) f.a.flow past) u)
-quiet-a k own past f u was q lost = by (lowest_live (set_phase k Dead f.a.table) == 0) refl
+pub quiet-a : (setup : Setup) (k : ℕ) (own : Bool) (past : List Entry) (f : Fabric) (u : Option Under) → AreLinked f u → (q : Peer) → AreLinked (with_peer A q f) u → AreLinked (with_peer A q f) (then_posted (loss_posts setup A k own (loses k f.a) f.a.flow past) u)
+quiet-a setup k own past f u was q lost = by (lowest_live (set_phase k Dead f.a.table) == 0) refl
   where
     none : (flow : LinkFlow) → is_own_flow A flow ≡ true → resends_add k flow ≡ false
     none NoFlow e = refl
@@ -197,13 +197,13 @@ quiet-a k own past f u was q lost = by (lowest_live (set_phase k Dead f.a.table)
     none (LinkSent j) e = refl
     none (Abandoned on) e = refl
 
-    by : (b : Bool) → (lowest_live (set_phase k Dead f.a.table) == 0) ≡ b → AreLinked (with_peer A q f) (then_posted (loss_posts A k own (if b then ends_group (without_slot k f.a) else goes_on k (without_slot k f.a)) f.a.flow past) u)
+    by : (b : Bool) → (lowest_live (set_phase k Dead f.a.table) == 0) ≡ b → AreLinked (with_peer A q f) (then_posted (loss_posts setup A k own (if b then ends_group (without_slot k f.a) else goes_on k (without_slot k f.a)) f.a.flow past) u)
     by true e = lost
     by false e =
         let g = was-going A k f.a (was.own A) e in
         let fl : AreFlowing A (phases f.a) f.a.flow = g.1 in
         subst (λ o. AreLinked (with_peer A q f) (option_or o u))
-        (sym (under-loss A k own (goes_on k (without_slot k f.a)) f.a.flow past (ne_eqb f.a.group 0 (λ z. g.0 z))
+        (sym (under-loss setup A k own (goes_on k (without_slot k f.a)) f.a.flow past (ne_eqb f.a.group 0 (λ z. g.0 z))
         ∙ ap (λ b. under_in (if b then add_again A (goes_on k (without_slot k f.a)) (keys_of A past) (pair_on A (flow_slot f.a.flow.link) past) f.a.flow.link else [])) (none f.a.flow.link fl.own)))
         lost
 
@@ -219,11 +219,11 @@ same-reported k p = by (loses k p) ((loses k p).group == 0)
     by q false = at (lowest_live q.table) q.flow (is_dropping k q.flow)
 
 -- a side reports a link of its own
-pub reports-linked : (x : Side) (k : ℕ) (past : List Entry) (u : Option Under) → AreLinked (fabric past) u → AreLinked (with_peer x (reports k (peer x (fabric past))) (fabric past)) (then_posted (report_posts x k true past) u)
-reports-linked A k past u all = quiet-a k true past (fabric past) u all (reports k (peer A (fabric past))) (reported-a k (fabric past) u all)
-reports-linked B k past u all = reposted k true past (fabric past) u all (reports k (peer B (fabric past))) (same-reported k (peer B (fabric past))) (reported-b k (fabric past) u all)
+pub reports-linked : (setup : Setup) (x : Side) (k : ℕ) (past : List Entry) (u : Option Under) → AreLinked (fabric past) u → AreLinked (with_peer x (reports k (peer x (fabric past))) (fabric past)) (then_posted (report_posts setup x k true past) u)
+reports-linked setup A k past u all = quiet-a setup k true past (fabric past) u all (reports k (peer A (fabric past))) (reported-a k (fabric past) u all)
+reports-linked setup B k past u all = reposted k true past (fabric past) u all setup (reports k (peer B (fabric past))) (same-reported k (peer B (fabric past))) (reported-b k (fabric past) u all)
 
 -- or as the peer has
-pub loses-linked : (x : Side) (k : ℕ) (past : List Entry) (u : Option Under) → AreLinked (fabric past) u → AreLinked (with_peer x (loses k (peer x (fabric past))) (fabric past)) (then_posted (report_posts x k false past) u)
-loses-linked A k past u all = quiet-a k false past (fabric past) u all (loses k (peer A (fabric past))) (lost-a k (fabric past) u all)
-loses-linked B k past u all = reposted k false past (fabric past) u all (loses k (peer B (fabric past))) refl (lost-b k (fabric past) u all)
+pub loses-linked : (setup : Setup) (x : Side) (k : ℕ) (past : List Entry) (u : Option Under) → AreLinked (fabric past) u → AreLinked (with_peer x (loses k (peer x (fabric past))) (fabric past)) (then_posted (report_posts setup x k false past) u)
+loses-linked setup A k past u all = quiet-a setup k false past (fabric past) u all (loses k (peer A (fabric past))) (lost-a k (fabric past) u all)
+loses-linked setup B k past u all = reposted k false past (fabric past) u all setup (loses k (peer B (fabric past))) refl (lost-b k (fabric past) u all)

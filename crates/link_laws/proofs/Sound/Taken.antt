@@ -6,12 +6,12 @@ use Rattle.smc_num.specs.declared.LinkPhase.TheVariants.{Live as LiveLink}
 use Rattle.pipe_model.specs.Fabric.{does}
 use Rattle.pipe_model.specs.Flows.{LinkSent}
 use Rattle.pipe_model.specs.declared.flow.FlowStep.TheVariants.{Live}
-use Rattle.history_laws.specs.Words.{A, Abandoned, AddKeys, AddLink, AddSeen, AddSent, AskLink, B, ConfirmLink, Entry, FirstContact, FlowStep, KeysSent, Known, LinkFlow, LinkId, NewKey, NoFlow, Over, Peer, Reject, ReplyAdd, ReplyKeys, SendKeys, Setup, Side, Skip, at_slot, fabric, flow_slot, is_first_contact, is_standing, link_or_none, llc_step, lowest_live, no_link, on_add_keys, on_add_keys_reply, on_add_link, on_add_link_reject, on_add_link_reply, on_confirm_link, on_confirm_link_reply, on_new_link, path_up, peer, phase_at, step_posts, view_of, with_peer}
+use Rattle.history_laws.specs.Words.{A, Abandoned, AddKeys, AddLink, AddSeen, AddSent, AskLink, B, ConfirmLink, Entry, FirstContact, FlowStep, KeysSent, Known, LinkFlow, LinkId, NewKey, NoFlow, Over, Peer, Reject, ReplyAdd, ReplyKeys, SendKeys, Setup, Side, Skip, at_slot, fabric, is_first_contact, is_standing, link_or_none, llc_step, lowest_live, no_link, on_add_keys, on_add_keys_reply, on_add_link, on_add_link_reject, on_add_link_reply, on_confirm_link, on_confirm_link_reply, on_new_link, path_up, peer, phase_at, step_posts, view_of}
 use Rattle.history_laws.proofs.Basics.{and-both}
 use Rattle.link_laws.proofs.Sound.Slots.{found-slot, lowest-is, phase_in, some-live}
 use Rattle.link_laws.specs.Linked.{AreFlowing, AreLinked, IsOwn, LinkFits, StandsAtBoth, is_accepted, is_adding_on, is_confirming, phases, then_posted}
 use Rattle.link_laws.proofs.Sound.OneSide.{IsGoing, going-of}
-use Rattle.link_laws.proofs.Sound.Landings.{accepts-again, accepts-new, asks-link, b-has, linked_to, lives-a, lives-b, overs, rejects, replies-keys, sends-keys}
+use Rattle.link_laws.proofs.Sound.Landings.{accepts-again, accepts-new, asks-link, b-has, lives-a, lives-b, overs, rejects, replies-keys, sends-keys}
 use Rattle.link_laws.proofs.Sound.Frames.{both-in, forgotten}
 
 -- what stands on a slot has the slot
@@ -81,9 +81,8 @@ module _ (setup : Setup) (past : List Entry) (l : LinkId) (both : StandsAtBoth l
             let own : IsOwn B (peer B (fabric past)) = all.own B in
             let low = lowest-lives B (peer B (fabric past)) own (going-of B (peer B (fabric past)) own.sound group (ap is_first_contact e)) in
             let same : (peer B (fabric past)).flow.link ≡ AddSent k on = e ∙ ap (λ i. AddSent i on) (sym (eqb-true k j p)) in
-            subst (λ i. AreLinked (with_peer B (linked_to (KeysSent i (lowest_live (peer B (fabric past)).table)) (peer B (fabric past))) (fabric past)) (then_posted (step_posts setup B l (AddLink true false e0 mac0 gid0 qp0 k mtu0 psn0) past SendKeys) None)) (sym (ap flow_slot same))
-            (sends-keys (fabric past) _ group all k on (lowest_live (peer B (fabric past)).table) (link_or_none (lowest_live (peer B (fabric past)).table) (peer B (fabric past)).table) _ _ same
-            (subst (λ flow. is_accepted k (peer A (fabric past)).flow.link flow (phases (peer A (fabric past)) k) (phases (peer B (fabric past)) k) ≡ true) same is.1) low (slot-of (lowest_live (peer B (fabric past)).table) (peer B (fabric past)).table (ap is_standing low)))
+            sends-keys (fabric past) _ group all k on (lowest_live (peer B (fabric past)).table) (link_or_none (lowest_live (peer B (fabric past)).table) (peer B (fabric past)).table) _ _ same
+            (subst (λ flow. is_accepted k (peer A (fabric past)).flow.link flow (phases (peer A (fabric past)) k) (phases (peer B (fabric past)) k) ≡ true) same is.1) low (slot-of (lowest_live (peer B (fabric past)).table) (peer B (fabric past)).table (ap is_standing low))
         sent j on e true false p = skipped
         sent j on e false here p = skipped
 
@@ -168,8 +167,7 @@ module _ (setup : Setup) (past : List Entry) (l : LinkId) (both : StandsAtBoth l
             let same : (peer B (fabric past)).flow.link ≡ KeysSent k on = e ∙ ap (λ i. KeysSent i on) (sym (eqb-true k j p)) in
             let flowing : AreFlowing B (phases (peer B (fabric past))) (peer B (fabric past)).flow = goes.flowing in
             let pending : LinkFits (phases (peer B (fabric past))) (KeysSent k on) = subst (λ flow. LinkFits (phases (peer B (fabric past))) flow) same flowing.link in
-            subst (λ i. AreLinked (with_peer B (linked_to (LinkSent i) (peer B (fabric past))) (fabric past)) (then_posted (step_posts setup B l (AddKeys true k c0 keys0) past AskLink) None)) (sym (ap flow_slot same))
-            (asks-link (fabric past) _ group all k on (link_or_none k (peer B (fabric past)).table) _ _ _ _ _ _ same groups.0 groups.1 (slot-of k (peer B (fabric past)).table (ap is_standing pending.1)))
+            asks-link (fabric past) _ group all k on (link_or_none k (peer B (fabric past)).table) _ _ _ _ _ _ same groups.0 groups.1 (slot-of k (peer B (fabric past)).table (ap is_standing pending.1))
         sent j on e false p = skipped
 
         by : (flow : LinkFlow) → (peer B (fabric past)).flow.link ≡ flow → Answered (on_add_keys_reply k flow)

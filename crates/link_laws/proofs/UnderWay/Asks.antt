@@ -57,11 +57,11 @@ module _ (past : List Entry) (all : HasFlows past) where
       by true true true e = changed past all (Report x slot) (GroupEnded (peer_of x past).group) [] (λ x k. refl) tt tt (inl refl)
           (λ actor cs bare. grows-peer x (reports slot (peer x (fabric past))) (fabric past) (λ l s. reports-stands l slot (peer x (fabric past)) s))
           (λ actor cs bare. lost x)
-      by true true false e = changed past all (Report x slot) Done (report_posts x slot true past) (λ x k. refl) (loss-one x slot true (loses slot (peer_of x past)) (flow_of x past) past)
-          (loss-made x slot true (loses slot (peer_of x past)) (fabric past) (lost-made (fabric past) all.under all.linked x (lowest_live (loses slot (peer_of x past)).table) slot) (flow_of x past) past)
-          (loss-free past all x slot true (gone-here past all x slot e))
+      by true true false e = changed past all (Report x slot) Done (report_posts setup x slot true past) (λ x k. refl) (loss-one x slot true (loses slot (peer_of x past)) setup (flow_of x past) past)
+          (loss-made x slot true (loses slot (peer_of x past)) setup (fabric past) (lost-made (fabric past) all.under all.linked x (lowest_live (loses slot (peer_of x past)).table) slot) (flow_of x past) past)
+          (loss-free past all setup x slot true (gone-here past all x slot e))
           (λ actor cs bare. grows-peer x (reports slot (peer x (fabric past))) (fabric past) (λ l s. reports-stands l slot (peer x (fabric past)) s))
-          (λ actor cs bare. subst (λ o. AreLinked (with_peer x (reports slot (peer x (fabric past))) (fabric past)) (option_or o all.under)) (sym (link-in (report_posts x slot true past))) (reports-linked x slot past all.under all.linked))
+          (λ actor cs bare. subst (λ o. AreLinked (with_peer x (reports slot (peer x (fabric past))) (fabric past)) (option_or o all.under)) (sym (link-in (report_posts setup x slot true past))) (reports-linked setup x slot past all.under all.linked))
 
   -- B grows the group
   pub grows : (setup : Setup) (payload : List ℕ) → Draft past all.under Grow (grow_told setup past) (asked setup payload past Grow (grow_told setup past))

@@ -107,11 +107,11 @@ module _ (past : List Entry) (all : HasFlows past) where
       none (Some w) is = absurd (gone w.link (carried.alive w is) (carries-again w.link.slot (peer A (fabric past)).flow.link (phases (peer A (fabric past))) (phases (peer B (fabric past))) k (peer B (fabric past)).flow.link w.from w.message e (under-fits w is)))
 
   -- a side posts as it loses the link of a slot
-  pub loss-free : (x : Side) (k : ℕ) (own : Bool) → ((l : LinkId) → is_dead l past ≡ false → l.slot ≡ k → ⊥) → (kind_in link_kind (loss_posts x k own (loses k (peer x (fabric past))) (flow_of x past) past) ≡ None) ⊎ (all.under ≡ None)
-  loss-free x k own gone = by (resends_add k (flow_of x past).link) refl
+  pub loss-free : (setup : Setup) (x : Side) (k : ℕ) (own : Bool) → ((l : LinkId) → is_dead l past ≡ false → l.slot ≡ k → ⊥) → (kind_in link_kind (loss_posts setup x k own (loses k (peer x (fabric past))) (flow_of x past) past) ≡ None) ⊎ (all.under ≡ None)
+  loss-free setup x k own gone = by (resends_add k (flow_of x past).link) refl
     where
-      by : (b : Bool) → resends_add k (flow_of x past).link ≡ b → (kind_in link_kind (loss_posts x k own (loses k (peer x (fabric past))) (flow_of x past) past) ≡ None) ⊎ (all.under ≡ None)
-      by false e = inl (loss-quiet x k own (loses k (peer x (fabric past))) (flow_of x past) past e)
+      by : (b : Bool) → resends_add k (flow_of x past).link ≡ b → (kind_in link_kind (loss_posts setup x k own (loses k (peer x (fabric past))) (flow_of x past) past) ≡ None) ⊎ (all.under ≡ None)
+      by false e = inl (loss-quiet x k own (loses k (peer x (fabric past))) setup (flow_of x past) past e)
       by true e = inr (again-none x k e gone)
 
   -- while B has no link flow nothing is under way
@@ -139,11 +139,11 @@ module _ (past : List Entry) (all : HasFlows past) where
       let at = stands-at 1 l (table_of x past) own.rises (h.1 x) in
       true-not-false (is_dead l past) (sym (ap (λ o. passes (λ link. is_dead link past) o) (ap (λ j. link_at j (table_of x past)) (sym e) ∙ at.1)) ∙ dead) alive
 
-  again-of : (x : Side) (k : ℕ) → is_standing (phase_at k (table_of (other x) past)) ≡ false → (kind_in link_kind (report_posts x k false past) ≡ None) ⊎ IsAgain x past
-  again-of x k there = by (resends_add k (flow_of x past).link) refl
+  again-of : (setup : Setup) (x : Side) (k : ℕ) → is_standing (phase_at k (table_of (other x) past)) ≡ false → (kind_in link_kind (report_posts setup x k false past) ≡ None) ⊎ IsAgain x past
+  again-of setup x k there = by (resends_add k (flow_of x past).link) refl
     where
-      by : (b : Bool) → resends_add k (flow_of x past).link ≡ b → (kind_in link_kind (report_posts x k false past) ≡ None) ⊎ IsAgain x past
-      by false e = inl (loss-quiet x k false (loses k (peer x (fabric past))) (flow_of x past) past e)
+      by : (b : Bool) → resends_add k (flow_of x past).link ≡ b → (kind_in link_kind (report_posts setup x k false past) ≡ None) ⊎ IsAgain x past
+      by false e = inl (loss-quiet x k false (loses k (peer x (fabric past))) setup (flow_of x past) past e)
       by true e = inr (record { k = k; again = e; there = there })
 
   -- a message that is not of the link flow makes a side post something of it only where it posts its request again
@@ -155,7 +155,7 @@ module _ (past : List Entry) (all : HasFlows past) where
     where
       by : (b : Bool) → (is_standing (phase_at k (table_of A past)) && not (is_standing (phase_at k (table_of B past)))) ≡ b → (kind_in link_kind (step_posts setup A on (DeleteLink false every orderly k reason) past (Gone b)) ≡ None) ⊎ IsAgain A past
       by false e = inl refl
-      by true e = again-of A k (not-standing (is_standing (phase_at k (table_of A past))) (is_standing (phase_at k (table_of B past))) e)
+      by true e = again-of setup A k (not-standing (is_standing (phase_at k (table_of A past))) (is_standing (phase_at k (table_of B past))) e)
         where
           not-standing : (a b : Bool) → (a && not b) ≡ true → b ≡ false
           not-standing a false e = refl
@@ -165,7 +165,7 @@ module _ (past : List Entry) (all : HasFlows past) where
     where
       by : (b : Bool) → (is_standing (phase_at k (table_of B past)) && not (is_standing (phase_at k (table_of A past)))) ≡ b → (kind_in link_kind (step_posts setup B on (DeleteLink false every orderly k reason) past (Gone b)) ≡ None) ⊎ IsAgain B past
       by false e = inl refl
-      by true e = again-of B k (not-standing (is_standing (phase_at k (table_of B past))) (is_standing (phase_at k (table_of A past))) e)
+      by true e = again-of setup B k (not-standing (is_standing (phase_at k (table_of B past))) (is_standing (phase_at k (table_of A past))) e)
         where
           not-standing : (a b : Bool) → (a && not b) ≡ true → b ≡ false
           not-standing a false e = refl

@@ -90,38 +90,38 @@ module _ (x : Side) (k : ℕ) (own : Bool) (p : Peer) where
   add-made f m ks qp flow false = tt
 
   -- what a loss makes a side post
-  pub loss-one : (before : Flow) (past : List Entry) → HasOneOf link_kind (loss_posts x k own p before past)
-  loss-one before past = by (p.group == 0)
+  pub loss-one : (setup : Setup) (before : Flow) (past : List Entry) → HasOneOf link_kind (loss_posts setup x k own p before past)
+  loss-one setup before past = by (p.group == 0)
     where
-      by : (b : Bool) → HasOneOf link_kind (if b then [] else (drop_posts x k own p ++ (if resends_key k before then key_again x p (keys_of x past).keys (deleting_rmbs x past) before.key ∷ [] else [])) ++ (if resends_add k before.link then add_again x p (keys_of x past) (pair_on x (flow_slot before.link) past) before.link else []))
+      by : (b : Bool) → HasOneOf link_kind (if b then [] else (drop_posts x k own p ++ (if resends_key k before then key_again x p (keys_of x past).keys (deleting_rmbs setup x past) before.key ∷ [] else [])) ++ (if resends_add k before.link then add_again x p (keys_of x past) (pair_on x (flow_slot before.link) past) before.link else []))
       by true = tt
-      by false = one-append link_kind (drop_posts x k own p ++ (if resends_key k before then key_again x p (keys_of x past).keys (deleting_rmbs x past) before.key ∷ [] else [])) _
-          (one-append link_kind (drop_posts x k own p) _ drop-one (key-one (keys_of x past).keys (deleting_rmbs x past) before.key (resends_key k before)) (inl drop-none))
+      by false = one-append link_kind (drop_posts x k own p ++ (if resends_key k before then key_again x p (keys_of x past).keys (deleting_rmbs setup x past) before.key ∷ [] else [])) _
+          (one-append link_kind (drop_posts x k own p) _ drop-one (key-one (keys_of x past).keys (deleting_rmbs setup x past) before.key (resends_key k before)) (inl drop-none))
           (add-one (keys_of x past) (pair_on x (flow_slot before.link) past) before.link (resends_add k before.link))
           (inl (Rattle.link_laws.proofs.UnderWay.PostKinds.kind-append link_kind (drop_posts x k own p) _
-          ∙ (ap (λ o. Rattle.std.specs.Option.option_or o (kind_in link_kind (if resends_key k before then key_again x p (keys_of x past).keys (deleting_rmbs x past) before.key ∷ [] else []))) drop-none ∙ key-none (keys_of x past).keys (deleting_rmbs x past) before.key (resends_key k before))))
+          ∙ (ap (λ o. Rattle.std.specs.Option.option_or o (kind_in link_kind (if resends_key k before then key_again x p (keys_of x past).keys (deleting_rmbs setup x past) before.key ∷ [] else []))) drop-none ∙ key-none (keys_of x past).keys (deleting_rmbs setup x past) before.key (resends_key k before))))
 
   -- nothing of the link flow, where the request of B was not on that link
-  pub loss-quiet : (before : Flow) (past : List Entry) → resends_add k before.link ≡ false → kind_in link_kind (loss_posts x k own p before past) ≡ None
-  loss-quiet before past e = by (p.group == 0)
+  pub loss-quiet : (setup : Setup) (before : Flow) (past : List Entry) → resends_add k before.link ≡ false → kind_in link_kind (loss_posts setup x k own p before past) ≡ None
+  loss-quiet setup before past e = by (p.group == 0)
     where
-      by : (b : Bool) → kind_in link_kind (if b then [] else (drop_posts x k own p ++ (if resends_key k before then key_again x p (keys_of x past).keys (deleting_rmbs x past) before.key ∷ [] else [])) ++ (if resends_add k before.link then add_again x p (keys_of x past) (pair_on x (flow_slot before.link) past) before.link else [])) ≡ None
+      by : (b : Bool) → kind_in link_kind (if b then [] else (drop_posts x k own p ++ (if resends_key k before then key_again x p (keys_of x past).keys (deleting_rmbs setup x past) before.key ∷ [] else [])) ++ (if resends_add k before.link then add_again x p (keys_of x past) (pair_on x (flow_slot before.link) past) before.link else [])) ≡ None
       by true = refl
       by false =
-          Rattle.link_laws.proofs.UnderWay.PostKinds.kind-append link_kind (drop_posts x k own p ++ (if resends_key k before then key_again x p (keys_of x past).keys (deleting_rmbs x past) before.key ∷ [] else [])) _
+          Rattle.link_laws.proofs.UnderWay.PostKinds.kind-append link_kind (drop_posts x k own p ++ (if resends_key k before then key_again x p (keys_of x past).keys (deleting_rmbs setup x past) before.key ∷ [] else [])) _
           ∙ (ap (λ o. Rattle.std.specs.Option.option_or o (kind_in link_kind (if resends_add k before.link then add_again x p (keys_of x past) (pair_on x (flow_slot before.link) past) before.link else [])))
           (Rattle.link_laws.proofs.UnderWay.PostKinds.kind-append link_kind (drop_posts x k own p) _
-          ∙ (ap (λ o. Rattle.std.specs.Option.option_or o (kind_in link_kind (if resends_key k before then key_again x p (keys_of x past).keys (deleting_rmbs x past) before.key ∷ [] else []))) drop-none ∙ key-none (keys_of x past).keys (deleting_rmbs x past) before.key (resends_key k before)))
+          ∙ (ap (λ o. Rattle.std.specs.Option.option_or o (kind_in link_kind (if resends_key k before then key_again x p (keys_of x past).keys (deleting_rmbs setup x past) before.key ∷ [] else []))) drop-none ∙ key-none (keys_of x past).keys (deleting_rmbs setup x past) before.key (resends_key k before)))
           ∙ ap (λ b. kind_in link_kind (if b then add_again x p (keys_of x past) (pair_on x (flow_slot before.link) past) before.link else [])) e)
 
   -- a loss posts on links that were made
-  pub loss-made : (f : Fabric) → carrier.incarnation ≤ made_on carrier.slot f → (before : Flow) (past : List Entry) → AreOnMade f (loss_posts x k own p before past)
-  loss-made f m before past = by (p.group == 0)
+  pub loss-made : (setup : Setup) (f : Fabric) → carrier.incarnation ≤ made_on carrier.slot f → (before : Flow) (past : List Entry) → AreOnMade f (loss_posts setup x k own p before past)
+  loss-made setup f m before past = by (p.group == 0)
     where
-      by : (b : Bool) → AreOnMade f (if b then [] else (drop_posts x k own p ++ (if resends_key k before then key_again x p (keys_of x past).keys (deleting_rmbs x past) before.key ∷ [] else [])) ++ (if resends_add k before.link then add_again x p (keys_of x past) (pair_on x (flow_slot before.link) past) before.link else []))
+      by : (b : Bool) → AreOnMade f (if b then [] else (drop_posts x k own p ++ (if resends_key k before then key_again x p (keys_of x past).keys (deleting_rmbs setup x past) before.key ∷ [] else [])) ++ (if resends_add k before.link then add_again x p (keys_of x past) (pair_on x (flow_slot before.link) past) before.link else []))
       by true = tt
-      by false = made-append f (drop_posts x k own p ++ (if resends_key k before then key_again x p (keys_of x past).keys (deleting_rmbs x past) before.key ∷ [] else [])) _
-          (made-append f (drop_posts x k own p) _ (drop-made f m) (key-made (keys_of x past).keys (deleting_rmbs x past) f m before.key (resends_key k before)))
+      by false = made-append f (drop_posts x k own p ++ (if resends_key k before then key_again x p (keys_of x past).keys (deleting_rmbs setup x past) before.key ∷ [] else [])) _
+          (made-append f (drop_posts x k own p) _ (drop-made f m) (key-made (keys_of x past).keys (deleting_rmbs setup x past) f m before.key (resends_key k before)))
           (add-made f m (keys_of x past) (pair_on x (flow_slot before.link) past) before.link (resends_add k before.link))
 
 -- only DELETE LINK makes a side report
@@ -242,7 +242,7 @@ module _ (setup : Setup) (x : Side) (on : LinkId) (past : List Entry) where
   one-of m Echo n = (inr refl, tt)
 
   gone-one : (reply every orderly : Bool) (k reason : ℕ) (b : Bool) → HasOneOf link_kind (step_posts setup x on (DeleteLink reply every orderly k reason) past (Gone b))
-  gone-one reply every orderly k reason true = (inl refl, loss-one x k false (loses k (peer_of x past)) (flow_of x past) past)
+  gone-one reply every orderly k reason true = (inl refl, loss-one x k false (loses k (peer_of x past)) setup (flow_of x past) past)
   gone-one reply every orderly k reason false = (inl refl, tt)
 
   -- whatever a message makes a side post, one message of the link flow is in it at most
@@ -271,7 +271,7 @@ module _ (setup : Setup) (x : Side) (on : LinkId) (past : List Entry) where
   step-made u all o m (Live false first) = tt
   step-made u all o m (ReplyKeys true) = (o, tt)
   step-made u all o m (ReplyKeys false) = (o, tt)
-  step-made u all o m (Gone true) = (o, loss-made x (named_slot m on.slot) false (loses (named_slot m on.slot) (peer_of x past)) (fabric past) (lost-made (fabric past) u all x (lowest_live (loses (named_slot m on.slot) (peer_of x past)).table) (named_slot m on.slot)) (flow_of x past) past)
+  step-made u all o m (Gone true) = (o, loss-made x (named_slot m on.slot) false (loses (named_slot m on.slot) (peer_of x past)) setup (fabric past) (lost-made (fabric past) u all x (lowest_live (loses (named_slot m on.slot) (peer_of x past)).table) (named_slot m on.slot)) (flow_of x past) past)
   step-made u all o m (Gone false) = (o, tt)
   step-made u all o m Skip = tt
   step-made u all o m SendKeys = (known-made (fabric past) u all x (lowest_live (table_of x past)), tt)
