@@ -6,6 +6,10 @@ mod GapIsFound
 mod KeyIsAskedAgain
 mod RawClientIsAccepted
 mod FaultyBytesStay
+mod DeletionIsPostedAgain
+mod DeletionIsHeld
+mod NextGroupBegins
+mod MoveBeforeTheConfirm
 pub mod LawfulSteps
 pub mod Declines
 pub mod KeptCauses
