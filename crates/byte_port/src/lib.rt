@@ -11,9 +11,11 @@ ghost use Rattle.std.specs.Prelude.{◌≡◌, ◌≤◌, ◌<◌, ℕ, List, []
 ghost use Rattle.byte_port.specs.Causes.{HasCause, HandsOver, TakesIn, Grew, IsRead, Rose};
 
 pub mod memory;
+pub mod page;
 pub mod streams;
 
 pub use memory::{MemorySink, MemorySource, NoMemory};
+pub use page::{PAGE_BYTES, Page};
 pub use streams::{ReaderSource, WriterSink};
 
 /// A call that came to nothing: a fault was counted, and no byte was moved.

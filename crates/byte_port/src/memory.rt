@@ -113,7 +113,7 @@ impl Model for MemorySink {
 }
 
 /// Appends bytes for which there is room.
-fn append_within(list: &mut Vec<u8>, piece: &[u8])
+pub(crate) fn append_within(list: &mut Vec<u8>, piece: &[u8])
     requires { length list.old.items + length piece.now ≤ vec_capacity list.old }
     ensures items { list.new.items ≡ list.old.items ++ piece.now }
     ensures capacity { vec_capacity list.old ≤ vec_capacity list.new }
