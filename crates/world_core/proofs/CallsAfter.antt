@@ -28,7 +28,7 @@ use Rattle.world_core.specs.Landed.{buffer_of}
 use Rattle.world_core.specs.WireSteps.{landing_now}
 use Rattle.world_core.specs.Managers.{manager_of}
 use Rattle.world_core.specs.Sending.{acting_side, moved, goes_on_wire, puts_all, MaySendAll}
-use Rattle.world_core.specs.Hosts.{AreHostsAfter}
+use Rattle.world_core.specs.Hosts.{AreHostsAfter, wire_at}
 use Rattle.world_core.specs.Calling.{MayCall, IsCalledAt}
 use Rattle.world_core.proofs.HostsAfter.{if-none, unposted, stands-on, played-now, may-after, room-after, streams-after, sent-after, kept-after, hosts-after}
 use Rattle.world_core.proofs.CallEntries.{IsCalled, IsNothing}
@@ -57,7 +57,7 @@ module _ (setup : Setup) (payload : List ℕ) (past : List Entry) (heard : ℕ) 
 
   -- the plain manager of a side
   abbrev pub plain_at : Side → Manager Half
-  plain_at y = manager_of setup payload (buffer_of setup payload y past ∷ []) y past
+  plain_at y = manager_of setup payload (buffer_of setup payload y 1 past ∷ []) y past
 
   module _ (is : IsCall event) (actor : ℕ) where
     abbrev E : Entry
@@ -67,22 +67,22 @@ module _ (setup : Setup) (payload : List ℕ) (past : List Entry) (heard : ℕ) 
     none-lands y = ap (λ n. if_latest the_link past n) (is.lands_none y E.reply) ∙ if-none past
 
     -- no end is called
-    pub idle-after : ((regions : List Buffer) → IsNothing setup payload regions E past) → (mine peers : Host) → mine.core ≡ own.core → mine.wire ≡ own.wire → peers.core ≡ theirs.core → peers.wire ≡ theirs.wire
+    pub idle-after : ((regions : List Buffer) → IsNothing setup payload regions E past) → (mine peers : Host) → mine.core ≡ own.core → (wire_at 1 mine) ≡ (wire_at 1 own) → peers.core ≡ theirs.core → (wire_at 1 peers) ≡ (wire_at 1 theirs)
         → length mine.flows.items ≡ setup.sockets → length peers.flows.items ≡ setup.sockets → Flowing payload setup.sockets X (E ∷ past) mine.flows.items → Flowing payload setup.sockets (other X) (E ∷ past) peers.flows.items
         → AreHostsAfter setup payload (E ∷ past) Now X mine peers
     idle-after nothing mine peers mc mw pc pw ml pl mf pf =
         let o = hosts.own in
         let t = hosts.theirs in
         let n = nothing [] in
-        let mine-stays = let k = nothing (buffer_of setup payload X past ∷ []) in k.kept X in
-        let peer-stays = let k = nothing (buffer_of setup payload (other X) past ∷ []) in k.kept (other X) in
+        let mine-stays = let k = nothing (buffer_of setup payload X 1 past ∷ []) in k.kept X in
+        let peer-stays = let k = nothing (buffer_of setup payload (other X) 1 past ∷ []) in k.kept (other X) in
         hosts-after setup payload hosts.set past heard hosts.played event built actor few X mine peers
         (sent-after setup payload hosts.set past heard hosts.played event built actor own mine o
         (stands-on setup payload past E X mine.core (plain_at X) (none-lands (other X)) mine-stays (subst (λ (v : Manager Kept). StandsFor v (plain_at X)) (sym mc) o.side))
-        [] (manager_of setup payload [] X (E ∷ past)) refl [] (sym n.posts) own.wire (sym (is.moves_none X own.wire)) (mw ∙ sym (unposted own.wire)) ml mf)
+        [] (manager_of setup payload [] X (E ∷ past)) refl [] (sym n.posts) (wire_at 1 own) (sym (is.moves_none X (wire_at 1 own))) (mw ∙ sym (unposted (wire_at 1 own))) ml mf)
         (kept-after setup payload hosts.set past heard hosts.played event built actor (other X) (twice X) theirs peers t
         (stands-on setup payload past E (other X) peers.core (plain_at (other X)) (none-lands (other (other X))) peer-stays (subst (λ (v : Manager Kept). StandsFor v (plain_at (other X))) (sym pc) t.side))
-        (pw ∙ sym (is.moves_none (other X) theirs.wire)) pl pf)
+        (pw ∙ sym (is.moves_none (other X) (wire_at 1 theirs))) pl pf)
 
     -- streams in which nothing moves
     pub mine-flows : E.posts ≡ [] → ((s : ℕ) → written payload X s E.event E.reply past ≡ []) → Flowing payload setup.sockets X (E ∷ past) own.flows.items
@@ -108,36 +108,36 @@ module _ (setup : Setup) (payload : List ℕ) (past : List Entry) (heard : ℕ) 
       called-after s call called mine posts c =
           let o = hosts.own in
           let t = hosts.theirs in
-          let here = called (buffer_of setup payload X past ∷ []) in
-          let peer-stays = let k = called (buffer_of setup payload (other X) past ∷ []) in k.theirs in
+          let here = called (buffer_of setup payload X 1 past ∷ []) in
+          let peer-stays = let k = called (buffer_of setup payload (other X) 1 past ∷ []) in k.theirs in
           let same : posts ≡ E.posts = c.posts_are ∙ sym here.posts in
           let put = streams-after setup payload hosts.set past heard hosts.played event built actor own o writes_none mine.flows.items (c.flows ∙ ap (λ (ps : List Post). puts_all ps own.flows.items) same) in
           hosts-after setup payload hosts.set past heard hosts.played event built actor few X mine theirs
           (sent-after setup payload hosts.set past heard hosts.played event built actor own mine o
           (stands-on setup payload past E X mine.core (acts_at s (call_of call (plain_at X)) (plain_at X)) (none-lands (other X)) here.own c.side)
-          (buffer_of setup payload X past ∷ []) (acts_at s (call_of call (plain_at X)) (plain_at X)) here.own posts same own.wire (sym (is.moves_none X own.wire)) c.wire put.0 put.1)
+          (buffer_of setup payload X 1 past ∷ []) (acts_at s (call_of call (plain_at X)) (plain_at X)) here.own posts same (wire_at 1 own) (sym (is.moves_none X (wire_at 1 own))) c.wire put.0 put.1)
           (kept-after setup payload hosts.set past heard hosts.played event built actor (other X) (twice X) theirs theirs t
           (stands-on setup payload past E (other X) theirs.core (plain_at (other X)) (none-lands (other (other X))) peer-stays t.side)
-          (sym (is.moves_none (other X) theirs.wire)) t.sockets (peer-flows takes_none reads_none))
+          (sym (is.moves_none (other X) (wire_at 1 theirs))) t.sockets (peer-flows takes_none reads_none))
 
     -- what an end that is called so posts may be sent
     module _ (s : ℕ) (call : Call) (called : (regions : List Buffer) → IsCalled setup payload regions X s call E past) where
-      pub has-room : length (filter goes_on_wire (due_at s (call_of call (plain_at X)) (plain_at X))) ≤ room_of own.wire
+      pub has-room : length (filter goes_on_wire (due_at s (call_of call (plain_at X)) (plain_at X))) ≤ room_of (wire_at 1 own)
       has-room =
           let o = hosts.own in
-          let here = called (buffer_of setup payload X past ∷ []) in
-          subst (λ w. length (filter goes_on_wire (due_at s (call_of call (plain_at X)) (plain_at X))) ≤ room_of w) (is.moves_none X own.wire)
-          (room-after setup payload hosts.set past heard hosts.played event built actor own.wire o.wire (due_at s (call_of call (plain_at X)) (plain_at X)) (sym here.posts))
+          let here = called (buffer_of setup payload X 1 past ∷ []) in
+          subst (λ w. length (filter goes_on_wire (due_at s (call_of call (plain_at X)) (plain_at X))) ≤ room_of w) (is.moves_none X (wire_at 1 own))
+          (room-after setup payload hosts.set past heard hosts.played event built actor (wire_at 1 own) o.wire (due_at s (call_of call (plain_at X)) (plain_at X)) (sym here.posts))
 
       pub may-go : (v : Manager Kept) → StandsFor v (acts_at s (call_of call (plain_at X)) (plain_at X)) → MaySendAll (length own.flows.items) v (due_at s (call_of call (plain_at X)) (plain_at X))
       may-go v stands =
           let o = hosts.own in
-          let here = called (buffer_of setup payload X past ∷ []) in
-          may-after setup payload hosts.set past heard hosts.played event built actor few (buffer_of setup payload X past ∷ []) v (subst (λ (m : Manager Half). StandsFor v m) (sym here.own) stands)
+          let here = called (buffer_of setup payload X 1 past ∷ []) in
+          may-after setup payload hosts.set past heard hosts.played event built actor few (buffer_of setup payload X 1 past ∷ []) v (subst (λ (m : Manager Half). StandsFor v m) (sym here.own) stands)
           (due_at s (call_of call (plain_at X)) (plain_at X)) (sym here.posts) (length own.flows.items) o.sockets
 
       pub sound-here : IsSoundAt own.core.records.terms.size (conn_at s own.core.records)
-      sound-here = let o = hosts.own in sound-at setup payload hosts.set past heard hosts.played hosts.few X (buffer_of setup payload X past ∷ []) own.core o.side s
+      sound-here = let o = hosts.own in sound-at setup payload hosts.set past heard hosts.played hosts.few X (buffer_of setup payload X 1 past ∷ []) own.core o.side s
 
       pub may-call : state_at s own.core ≡ IsUp → MayCall s call own
       may-call up = let o = hosts.own in record { up = up; sound = sound-here; plain = plain_at X; stands = o.side; room = has-room; sent = may-go }

@@ -26,7 +26,7 @@ use Rattle.world_core.specs.Landed.{buffer_of, peer_buffer, first_lands, waiting
 use Rattle.world_core.specs.Managers.{manager_of, HasLendings}
 use Rattle.world_core.specs.Steps.{entry_of}
 use Rattle.world_core.specs.Sending.{acting_side, moved, carried_from, goes_on_wire, puts_one, puts_all, MaySendAll}
-use Rattle.world_core.specs.Hosts.{IsWorldSet, IsHostAfter, IsWireAfter, AreHostsAfter, with_posts}
+use Rattle.world_core.specs.Hosts.{IsWorldSet, IsHostAfter, IsWireAfter, AreHostsAfter, with_posts, wire_at}
 use Rattle.world_core.proofs.Sends.{same_length}
 use Rattle.world_core.proofs.AllLendings.{has-lendings}
 use Rattle.world_core.proofs.WiresAfter.{wire-theirs}
@@ -49,15 +49,15 @@ same-lengths (post ∷ posts) flows = same-lengths posts (puts_one post flows) �
 
 module _ (setup : Setup) (payload : List ℕ) (past : List Entry) (e : Entry) where
   -- where nothing lands for a side, its RMB stays
-  pub buffer-kept : (y : Side) → landing_now the_link (other y) e past ≡ 0 → buffer_of setup payload y (e ∷ past) ≡ buffer_of setup payload y past
+  pub buffer-kept : (y : Side) → landing_now the_link (other y) e past ≡ 0 → buffer_of setup payload y 1 (e ∷ past) ≡ buffer_of setup payload y 1 past
   buffer-kept y none =
-      ap (λ (n : ℕ). if n == 0 then peer_buffer setup payload (other y) past
-      else first_lands setup payload (other y) past (waiting_posts (other y) past) (peer_buffer setup payload (other y) past)) none
+      ap (λ (n : ℕ). if n == 0 then peer_buffer setup payload (other y) 1 past
+      else first_lands setup payload (other y) past (waiting_posts (other y) past) (peer_buffer setup payload (other y) 1 past)) none
 
   -- so its manager stands for what becomes of the old one
   pub stands-on : (y : Side) (v : Manager Kept) (m : Manager Half) → landing_now the_link (other y) e past ≡ 0
-      → manager_of setup payload (buffer_of setup payload y past ∷ []) y (e ∷ past) ≡ m → StandsFor v m
-      → StandsFor v (manager_of setup payload (buffer_of setup payload y (e ∷ past) ∷ []) y (e ∷ past))
+      → manager_of setup payload (buffer_of setup payload y 1 past ∷ []) y (e ∷ past) ≡ m → StandsFor v m
+      → StandsFor v (manager_of setup payload (buffer_of setup payload y 1 (e ∷ past) ∷ []) y (e ∷ past))
   stands-on y v m none is stands =
       subst (λ (b : Buffer). StandsFor v (manager_of setup payload (b ∷ []) y (e ∷ past))) (sym (buffer-kept y none)) (subst (λ (k : Manager Half). StandsFor v k) (sym is) stands)
 
@@ -77,7 +77,7 @@ module _ (setup : Setup) (payload : List ℕ) (set : IsWorldSet setup payload) (
 
   -- the manager of a side after it
   abbrev Then : Side → Manager Half
-  Then y = manager_of setup payload (buffer_of setup payload y (Now ∷ past) ∷ []) y (Now ∷ past)
+  Then y = manager_of setup payload (buffer_of setup payload y 1 (Now ∷ past) ∷ []) y (Now ∷ past)
 
   pub played-now : IsPlayed setup payload (Now ∷ past) Heard
   played-now = (heard, record { built = built; reply = refl; posts = refl }, refl, was)
@@ -106,26 +106,26 @@ module _ (setup : Setup) (payload : List ℕ) (set : IsWorldSet setup payload) (
 
   -- the host of the side that acts, after it has sent what is posted
   pub sent-after : (h g : Host) → IsHostAfter setup payload X past h → StandsFor g.core (Then X) → (regions : List Buffer) (m : Manager Half) → manager_of setup payload regions X (Now ∷ past) ≡ m
-      → (posts : List Post) → posts ≡ Posts → (w : Queues) → w ≡ moved X event h.wire → g.wire ≡ with_posts (carried_from m (next_number past) 1 posts) w
+      → (posts : List Post) → posts ≡ Posts → (w : Queues) → w ≡ moved X event (wire_at 1 h) → (wire_at 1 g) ≡ with_posts (carried_from m (next_number past) 1 posts) w
       → length g.flows.items ≡ setup.sockets → Flowing payload setup.sockets X (Now ∷ past) g.flows.items → IsHostAfter setup payload X (Now ∷ past) g
   sent-after h g own side regions m is posts posts_are w left wire sockets flows =
-      let wire-is : with_posts (carried_from (manager_of setup payload regions X (Now ∷ past)) (next_number past) 1 Posts) (moved X event h.wire) ≡ g.wire =
+      let wire-is : with_posts (carried_from (manager_of setup payload regions X (Now ∷ past)) (next_number past) 1 Posts) (moved X event (wire_at 1 h)) ≡ (wire_at 1 g) =
       ap (λ v. with_posts (carried_from (manager_of setup payload regions X (Now ∷ past)) (next_number past) 1 Posts) v) (sym left)
       ∙ (ap (λ ps. with_posts (carried_from (manager_of setup payload regions X (Now ∷ past)) (next_number past) 1 ps) w) (sym posts_are)
       ∙ (ap (λ k. with_posts (carried_from k (next_number past) 1 posts) w) is ∙ sym wire)) in
       record {
         side = side;
-        wire = subst (λ v. IsWireAfter setup payload X (Now ∷ past) v) wire-is (wire-own setup set.one payload Now past Heard played-now lent-now X refl regions h.wire own.wire);
+        wire = subst (λ v. IsWireAfter setup payload X (Now ∷ past) v) wire-is (wire-own setup set.one payload Now past Heard played-now lent-now X refl regions (wire_at 1 h) own.wire);
         sockets = sockets;
         flows = flows;
       }
 
   -- that of its peer
-  pub kept-after : (y : Side) → acting_side event ≡ other y → (h g : Host) → IsHostAfter setup payload y past h → StandsFor g.core (Then y) → g.wire ≡ moved y event h.wire
+  pub kept-after : (y : Side) → acting_side event ≡ other y → (h g : Host) → IsHostAfter setup payload y past h → StandsFor g.core (Then y) → (wire_at 1 g) ≡ moved y event (wire_at 1 h)
       → length g.flows.items ≡ setup.sockets → Flowing payload setup.sockets y (Now ∷ past) g.flows.items → IsHostAfter setup payload y (Now ∷ past) g
   kept-after y acts h g own side wire sockets flows = record {
     side = side;
-    wire = subst (λ v. IsWireAfter setup payload y (Now ∷ past) v) (sym wire) (wire-theirs setup set.one payload Now past Heard played-now y acts h.wire own.wire);
+    wire = subst (λ v. IsWireAfter setup payload y (Now ∷ past) v) (sym wire) (wire-theirs setup set.one payload Now past Heard played-now y acts (wire_at 1 h) own.wire);
     sockets = sockets;
     flows = flows;
   }

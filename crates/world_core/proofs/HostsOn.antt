@@ -25,7 +25,7 @@ use Rattle.world_core.specs.Managers.{manager_of, hand_of}
 use Rattle.world_core.proofs.Tables.{sockets-long}
 use Rattle.world_core.specs.Steps.{entry_of}
 use Rattle.world_core.specs.Sending.{acting_side, moved, carried_from, goes_on_wire, puts_all, MaySendAll}
-use Rattle.world_core.specs.Hosts.{AreHostsAfter, IsHostAfter, IsPlayedBy, past_of, with_posts}
+use Rattle.world_core.specs.Hosts.{AreHostsAfter, IsHostAfter, IsPlayedBy, past_of, with_posts, wire_at}
 use Rattle.world_core.specs.declared.moment.Moment.{Moment}
 use Rattle.std.proofs.lemmas.List.{length-reverse}
 use Rattle.world_core.proofs.QuietEvents.{entry-of}
@@ -36,46 +36,46 @@ use Rattle.world_core.proofs.Plain.{twice}
 module _ (setup : Setup) (payload : List ℕ) (past : List Entry) (heard : ℕ) (event : Event) (h k : Host) (before : AreHostsAfter setup payload past heard (acting_side event) h k) (few : length past < 2 ^ 18)
     (built : IsBuilt setup (length payload) event) (lands : (y : Side) (reply : Reply) (posts : List Post) (actor : ℕ) → landing_now the_link y (entry-of actor event reply posts) past ≡ 0)
     (unmoved : (y : Side) (w : Queues) → moved y event w ≡ w) (silent : (s : ℕ) (reply : Reply) → written payload (acting_side event) s event reply past ≡ []) (actor : ℕ) where
-  stands-then : (y : Side) (v : Manager Kept) → StandsFor v (manager_of setup payload (buffer_of setup payload y past ∷ []) y (entry_of setup payload past heard actor event ∷ past))
-      → StandsFor v (manager_of setup payload (buffer_of setup payload y (entry_of setup payload past heard actor event ∷ past) ∷ []) y (entry_of setup payload past heard actor event ∷ past))
+  stands-then : (y : Side) (v : Manager Kept) → StandsFor v (manager_of setup payload (buffer_of setup payload y 1 past ∷ []) y (entry_of setup payload past heard actor event ∷ past))
+      → StandsFor v (manager_of setup payload (buffer_of setup payload y 1 (entry_of setup payload past heard actor event ∷ past) ∷ []) y (entry_of setup payload past heard actor event ∷ past))
   stands-then y v st =
-      stands-on setup payload past (entry_of setup payload past heard actor event) y v (manager_of setup payload (buffer_of setup payload y past ∷ []) y (entry_of setup payload past heard actor event ∷ past))
+      stands-on setup payload past (entry_of setup payload past heard actor event) y v (manager_of setup payload (buffer_of setup payload y 1 past ∷ []) y (entry_of setup payload past heard actor event ∷ past))
       (lands (other y) (reply_of heard (told setup payload past event)) (posted setup payload past heard event) actor) refl st
 
   -- that what is posted may be sent
-  pub may-go : (v : Manager Kept) → StandsFor v (manager_of setup payload (buffer_of setup payload (acting_side event) past ∷ []) (acting_side event) (entry_of setup payload past heard actor event ∷ past))
-      → (posts : List Post) → posts ≡ posted setup payload past heard event → MaySendAll (length h.flows.items) v posts × (length (filter goes_on_wire posts) ≤ room_of h.wire)
+  pub may-go : (v : Manager Kept) → StandsFor v (manager_of setup payload (buffer_of setup payload (acting_side event) 1 past ∷ []) (acting_side event) (entry_of setup payload past heard actor event ∷ past))
+      → (posts : List Post) → posts ≡ posted setup payload past heard event → MaySendAll (length h.flows.items) v posts × (length (filter goes_on_wire posts) ≤ room_of (wire_at 1 h))
   may-go v st posts is =
       let own = before.own in (
-        may-after setup payload before.set past heard before.played event built actor few (buffer_of setup payload (acting_side event) past ∷ []) v st posts is (length h.flows.items) own.sockets,
-        subst (λ w. length (filter goes_on_wire posts) ≤ room_of w) (unmoved (acting_side event) h.wire) (room-after setup payload before.set past heard before.played event built actor h.wire own.wire posts is),
+        may-after setup payload before.set past heard before.played event built actor few (buffer_of setup payload (acting_side event) 1 past ∷ []) v st posts is (length h.flows.items) own.sockets,
+        subst (λ w. length (filter goes_on_wire posts) ≤ room_of w) (unmoved (acting_side event) (wire_at 1 h)) (room-after setup payload before.set past heard before.played event built actor (wire_at 1 h) own.wire posts is),
       )
 
   -- the host that has sent what is posted
-  pub own-sent : (g : Host) → StandsFor g.core (manager_of setup payload (buffer_of setup payload (acting_side event) past ∷ []) (acting_side event) (entry_of setup payload past heard actor event ∷ past))
+  pub own-sent : (g : Host) → StandsFor g.core (manager_of setup payload (buffer_of setup payload (acting_side event) 1 past ∷ []) (acting_side event) (entry_of setup payload past heard actor event ∷ past))
       → (posts : List Post) → posts ≡ posted setup payload past heard event → (number : ℕ) → number ≡ next_number past
-      → ((m : Manager Half) → StandsFor g.core m → g.wire ≡ with_posts (carried_from m number 1 posts) h.wire) → g.flows.items ≡ puts_all posts h.flows.items
+      → ((m : Manager Half) → StandsFor g.core m → (wire_at 1 g) ≡ with_posts (carried_from m number 1 posts) (wire_at 1 h)) → g.flows.items ≡ puts_all posts h.flows.items
       → IsHostAfter setup payload (acting_side event) (entry_of setup payload past heard actor event ∷ past) g
   own-sent g st posts is number n wire flows =
       let own = before.own in
-      let m = manager_of setup payload (buffer_of setup payload (acting_side event) past ∷ []) (acting_side event) (entry_of setup payload past heard actor event ∷ past) in
+      let m = manager_of setup payload (buffer_of setup payload (acting_side event) 1 past ∷ []) (acting_side event) (entry_of setup payload past heard actor event ∷ past) in
       let put = streams-after setup payload before.set past heard before.played event built actor h own (λ s. silent s (reply_of heard (told setup payload past event))) g.flows.items (flows ∙ ap (λ ps. puts_all ps h.flows.items) is) in
-      sent-after setup payload before.set past heard before.played event built actor h g own (stands-then (acting_side event) g.core st) (buffer_of setup payload (acting_side event) past ∷ []) m refl posts is
-      h.wire (sym (unmoved (acting_side event) h.wire)) (wire m st ∙ ap (λ i. with_posts (carried_from m i 1 posts) h.wire) n) put.0 put.1
+      sent-after setup payload before.set past heard before.played event built actor h g own (stands-then (acting_side event) g.core st) (buffer_of setup payload (acting_side event) 1 past ∷ []) m refl posts is
+      (wire_at 1 h) (sym (unmoved (acting_side event) (wire_at 1 h))) (wire m st ∙ ap (λ i. with_posts (carried_from m i 1 posts) (wire_at 1 h)) n) put.0 put.1
 
   -- the same where nothing is posted
-  pub own-kept : (g : Host) → StandsFor g.core (manager_of setup payload (buffer_of setup payload (acting_side event) past ∷ []) (acting_side event) (entry_of setup payload past heard actor event ∷ past))
-      → posted setup payload past heard event ≡ [] → g.wire ≡ h.wire → g.flows.items ≡ h.flows.items
+  pub own-kept : (g : Host) → StandsFor g.core (manager_of setup payload (buffer_of setup payload (acting_side event) 1 past ∷ []) (acting_side event) (entry_of setup payload past heard actor event ∷ past))
+      → posted setup payload past heard event ≡ [] → (wire_at 1 g) ≡ (wire_at 1 h) → g.flows.items ≡ h.flows.items
       → IsHostAfter setup payload (acting_side event) (entry_of setup payload past heard actor event ∷ past) g
-  own-kept g st none wire flows = own-sent g st [] (sym none) (next_number past) refl (λ m s. wire ∙ sym (unposted h.wire)) flows
+  own-kept g st none wire flows = own-sent g st [] (sym none) (next_number past) refl (λ m s. wire ∙ sym (unposted (wire_at 1 h))) flows
 
   -- its peer
-  pub theirs-then : (l : Host) → StandsFor l.core (manager_of setup payload (buffer_of setup payload (other (acting_side event)) past ∷ []) (other (acting_side event)) (entry_of setup payload past heard actor event ∷ past))
-      → l.wire ≡ k.wire → length l.flows.items ≡ setup.sockets → Flowing payload setup.sockets (other (acting_side event)) (entry_of setup payload past heard actor event ∷ past) l.flows.items
+  pub theirs-then : (l : Host) → StandsFor l.core (manager_of setup payload (buffer_of setup payload (other (acting_side event)) 1 past ∷ []) (other (acting_side event)) (entry_of setup payload past heard actor event ∷ past))
+      → (wire_at 1 l) ≡ (wire_at 1 k) → length l.flows.items ≡ setup.sockets → Flowing payload setup.sockets (other (acting_side event)) (entry_of setup payload past heard actor event ∷ past) l.flows.items
       → IsHostAfter setup payload (other (acting_side event)) (entry_of setup payload past heard actor event ∷ past) l
   theirs-then l st wire sockets flows =
       kept-after setup payload before.set past heard before.played event built actor (other (acting_side event)) (twice (acting_side event)) k l before.theirs (stands-then (other (acting_side event)) l.core st)
-      (wire ∙ sym (unmoved (other (acting_side event)) k.wire)) sockets flows
+      (wire ∙ sym (unmoved (other (acting_side event)) (wire_at 1 k))) sockets flows
 
 -- a manager that stands for one of a history has the sockets of the setup
 pub stood : (setup : Setup) (payload : List ℕ) (regions : List Buffer) (x : Side) (past : List Entry) (v : Manager Kept) → StandsFor v (manager_of setup payload regions x past) → (s : ℕ) → s < setup.sockets → s < length v.hands

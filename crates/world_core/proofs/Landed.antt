@@ -54,9 +54,9 @@ module _ (setup : Setup) (one : IsOneLink setup) (payload : List ℕ) (x : Side)
   abbrev Size : ℕ
   Size = element_size setup
 
-  module _ (e : Entry) (past : List Entry) (n : ℕ) (p : IsPlayed setup payload (e ∷ past) n) (all : AllReach setup one payload x past) (is : IsRmb setup (other x) (peer_buffer setup payload x past)) where
+  module _ (e : Entry) (past : List Entry) (n : ℕ) (p : IsPlayed setup payload (e ∷ past) n) (all : AllReach setup one payload x past) (is : IsRmb setup (other x) (peer_buffer setup payload x 1 past)) where
     abbrev Buf : Buffer
-    Buf = peer_buffer setup payload x past
+    Buf = peer_buffer setup payload x 1 past
 
     abbrev Waiting : List Post
     Waiting = waiting_posts x past
@@ -67,10 +67,10 @@ module _ (setup : Setup) (one : IsOneLink setup) (payload : List ℕ) (x : Side)
     posts-by : (k : ℕ) (rest : List Post) → leaving the_link x e past ≡ k → drop k Waiting ≡ rest → waiting_posts x (e ∷ past) ≡ rest ++ All
     posts-by k rest l d = new-unlanded the_link x e past ∙ ap (λ j. drop j Waiting ++ All) l ∙ ap (λ r. r ++ All) d
 
-    buffer-kept : landing_now the_link x e past ≡ 0 → peer_buffer setup payload x (e ∷ past) ≡ Buf
+    buffer-kept : landing_now the_link x e past ≡ 0 → peer_buffer setup payload x 1 (e ∷ past) ≡ Buf
     buffer-kept l = ap (λ k. if k == 0 then Buf else first_lands setup payload x past Waiting Buf) l
 
-    buffer-lands : landing_now the_link x e past ≡ 1 → (ps : List Post) → Waiting ≡ ps → peer_buffer setup payload x (e ∷ past) ≡ first_lands setup payload x past ps Buf
+    buffer-lands : landing_now the_link x e past ≡ 1 → (ps : List Post) → Waiting ≡ ps → peer_buffer setup payload x 1 (e ∷ past) ≡ first_lands setup payload x past ps Buf
     buffer-lands l ps w = ap (λ k. if k == 0 then Buf else first_lands setup payload x past Waiting Buf) l ∙ ap (λ qs. first_lands setup payload x past qs Buf) w
 
     -- the buffer stays the RMB
@@ -81,7 +81,11 @@ module _ (setup : Setup) (one : IsOneLink setup) (payload : List ℕ) (x : Side)
         let o = ow.o in
         let el = element-of setup one payload x past p.0 p.3 Buf is l.s o ow.offered_is in
         let inside : IsInside address (length bytes) Buf = subst (λ k. IsInside address k Buf) (sym long) (subst (λ a. IsInside a len Buf) (sym ow.address_is) (lies-inside Size (offered_place o.offer) Buf ow.at len el ow.fits)) in
-        record { whole = a_landing_keeps_the_buffer_whole Buf address bytes is.whole inside; rmb = is.rmb; size = is.size; elements = is.elements }
+        by bytes inside (l.place.rmb == Buf.rmb)
+      where
+        by : (bytes : List ℕ) → IsInside address (length bytes) Buf → (b : Bool) → IsRmb setup (other x) (if b then lands address bytes Buf else Buf)
+        by bytes inside true = record { whole = a_landing_keeps_the_buffer_whole Buf address bytes is.whole inside; rmb = is.rmb; size = is.size; elements = is.elements }
+        by bytes inside false = is
 
     first-rmb : (post : Post) (rest : List Post) → Waiting ≡ post ∷ rest → IsRmb setup (other x) (first_lands setup payload x past (post ∷ rest) Buf)
     first-rmb (Cdc from link m) rest w = is
@@ -97,14 +101,14 @@ module _ (setup : Setup) (one : IsOneLink setup) (payload : List ℕ) (x : Side)
         by None i = is
         by (Some m) i = named m i (record_of setup payload (other x) m.token past) refl
 
-    rmb-by : Way payload the_link x e past → IsRmb setup (other x) (peer_buffer setup payload x (e ∷ past))
+    rmb-by : Way payload the_link x e past → IsRmb setup (other x) (peer_buffer setup payload x 1 (e ∷ past))
     rmb-by (inl w) = let l = w.0 in subst (λ b. IsRmb setup (other x) b) (sym (buffer-kept l.lands)) is
     rmb-by (inr (inl w)) = let l = w.0 in
         let q : Waiting ≡ (l.first).post ∷ Posts l.rest = ap (λ cs. Posts cs) l.waiting in
         subst (λ b. IsRmb setup (other x) b) (sym (buffer-lands l.lands ((l.first).post ∷ Posts l.rest) q)) (first-rmb (l.first).post (Posts l.rest) q)
     rmb-by (inr (inr w)) = let l = w.0 in subst (λ b. IsRmb setup (other x) b) (sym (buffer-kept l.lands)) is
 
-    pub rmb-on : IsRmb setup (other x) (peer_buffer setup payload x (e ∷ past))
+    pub rmb-on : IsRmb setup (other x) (peer_buffer setup payload x 1 (e ∷ past))
     rmb-on = let g = gives-items setup one payload e past n p in rmb-by (g.way x)
 
     -- the bytes of one end
@@ -205,8 +209,12 @@ module _ (setup : Setup) (one : IsOneLink setup) (payload : List ℕ) (x : Side)
               let apart : same_place Elem (offered_place o2.offer) ≡ false = subst (λ (q : Lending). same_place Elem q.place ≡ false) ow.lent_is differ in
               let bytes : List ℕ = bytes_of (half x (pipe_of setup payload k.group k.s past)) len Rest in
               let long : length bytes ≡ len = ap (λ bs. length bs) ow.bytes ∙ slice-length ow.at len (half x (pipe_of setup payload 1 k.s past)).out ow.has in
-              subst (λ at. Stand Size Elem Taker.rd r.reach Now.out (lands at bytes Buf)) (sym ow.address_is)
-              (stand-else Size Elem (offered_place o2.offer) Buf els els2 apart Taker.rd r.reach Now.out ow.at len bytes long ow.fits r.stand)
+              either bytes (k.place.rmb == Buf.rmb) (subst (λ at. Stand Size Elem Taker.rd r.reach Now.out (lands at bytes Buf)) (sym ow.address_is)
+              (stand-else Size Elem (offered_place o2.offer) Buf els els2 apart Taker.rd r.reach Now.out ow.at len bytes long ow.fits r.stand))
+            where
+              either : (bytes : List ℕ) (b : Bool) → Stand Size Elem Taker.rd reached.reach Now.out (lands address bytes Buf) → Stand Size Elem Taker.rd reached.reach Now.out (if b then lands address bytes Buf else Buf)
+              either bytes true stood = stood
+              either bytes false stood = let r = reached in r.stand
 
           else-stands : (from : Side) (link : LinkId) (key : ℕ) → Waiting ≡ Write from link key address len ∷ Rest → next_cdc Rest ≡ Some m → (q : Option Lending) → record_of setup payload (other x) m.token past ≡ q → Stand Size Elem Taker.rd reached.reach Now.out (written_for setup payload x past address len Rest q Buf)
           else-stands from link key w i None j = let r = reached in r.stand
@@ -223,10 +231,13 @@ module _ (setup : Setup) (one : IsOneLink setup) (payload : List ℕ) (x : Side)
             let up = carries-up Size x Elem o.offer.token (r.reach + len) Now.last.told Rest (drop Now.landed Now.sent) c in
             let mine = lent-is (is-up-by tells.first tells.rest tells.is (is_up x s past) refl) in
             let named : record_of setup payload (other x) m.token past ≡ Some (lends_by s the_link o.offer) = ap (λ t. record_of setup payload (other x) t past) (sym (eqb-true o.offer.token m.token tok)) ∙ mine.1 in
+            let there : ((offered_place o.offer).rmb == Buf.rmb) ≡ true = eq-eqb (offered_place o.offer).rmb Buf.rmb els.rmb in
+            let whole : List ℕ = bytes_of (half x (pipe_of setup payload the_link.group s past)) len Rest in
             subst (λ q. Stand Size Elem Taker.rd (r.reach + len) Now.out (written_for setup payload x past address len Rest q Buf)) (sym named)
+            (subst (λ b. Stand Size Elem Taker.rd (r.reach + len) Now.out (if b then lands address whole Buf else Buf)) (sym there)
             (subst (λ bytes. Stand Size Elem Taker.rd (r.reach + len) Now.out (lands address bytes Buf)) (sym (bytes-are setup one payload x Now r.reach len Rest Elem o.offer.token tells))
             (subst (λ a. Stand Size Elem Taker.rd (r.reach + len) Now.out (lands a (take len (drop r.reach Now.out)) Buf)) (sym at)
-            (stand-more Size Elem Buf els Taker.rd r.reach len Now.out fits (omega (arith, up, cn.told, cn.accepted_fits)) (omega (arith, up, cn.told)) r.stand)))
+            (stand-more Size Elem Buf els Taker.rd r.reach len Now.out fits (omega (arith, up, cn.told, cn.accepted_fits)) (omega (arith, up, cn.told)) r.stand))))
           where
             is-up-by : (a : Sent) (rest : List Sent) → drop Now.landed Now.sent ≡ a ∷ rest → (u : Bool) → is_up x s past ≡ u → u ≡ true
             is-up-by a rest g true u = refl

@@ -31,11 +31,11 @@ use Rattle.world_core.specs.declared.host.Host.{Host}
 use Rattle.world_core.specs.declared.moment.Moment.{Moment}
 use Rattle.world_core.specs.OneLink.{the_link}
 use Rattle.world_core.specs.Managers.{manager_of, changes_end}
-use Rattle.world_core.specs.Leaving.{HasLanded, with_wire}
+use Rattle.world_core.specs.Leaving.{HasLanded}
 use Rattle.world_core.specs.Landed.{buffer_of, waiting_posts}
 use Rattle.world_core.specs.Steps.{entry_of}
 use Rattle.world_core.specs.Sending.{carried_from, goes_on_wire, puts_all, MaySendAll}
-use Rattle.world_core.specs.Hosts.{IsPlayedBy, past_of, with_posts}
+use Rattle.world_core.specs.Hosts.{IsPlayedBy, past_of, with_posts, wire_at}
 use Rattle.world_core.proofs.WireEntries.{IsTaken}
 use Rattle.world_core.proofs.LinkEntries.{IsConfirmed}
 use Rattle.world_core.proofs.LandedEnds.{left-stands}
@@ -45,19 +45,19 @@ use Rattle.world_core.proofs.ConfirmEnds.{confirmation}
 use Rattle.world_core.proofs.SoundEnds.{sound-at}
 use Rattle.world_core.proofs.OnWire.{next-lands, landing-is}
 use Rattle.world_core.proofs.LandingEntries.{message-told, lands-message, llc-told, lands-llc}
-use Rattle.world_core.proofs.LandingsAfter.{Taker, one-lands, few-before, lent-now, sent-landing, may-be-sent, has-room}
+use Rattle.world_core.proofs.LandingsAfter.{Taker, one-lands, few-before, lent-now, sent-landing, may-be-sent, has-room, IsLeft}
 use Rattle.world_core.proofs.Plain.{twice}
 
 -- what is known of a message that has landed: what becomes of the manager that takes it, what is posted, and what becomes of the sender's
 pub record IsTaking (at : Moment) (x : Side) (taken sent : Manager Half) (posts : List Post) : Type 0 where
-  pub buffer : (actor : ℕ) → buffer_of at.setup.now at.payload.now (other x) (entry_of at.setup.now at.payload.now (past_of at) at.heard actor (Deliver 1 x) ∷ past_of at) ≡ buffer_of at.setup.now at.payload.now (other x) (past_of at)
-  pub taker : (actor : ℕ) → manager_of at.setup.now at.payload.now (buffer_of at.setup.now at.payload.now (other x) (past_of at) ∷ []) (other x) (entry_of at.setup.now at.payload.now (past_of at) at.heard actor (Deliver 1 x) ∷ past_of at) ≡ taken
-  pub sender : (actor : ℕ) → manager_of at.setup.now at.payload.now (buffer_of at.setup.now at.payload.now x (past_of at) ∷ []) x (entry_of at.setup.now at.payload.now (past_of at) at.heard actor (Deliver 1 x) ∷ past_of at) ≡ sent
+  pub buffer : (actor : ℕ) → buffer_of at.setup.now at.payload.now (other x) 1 (entry_of at.setup.now at.payload.now (past_of at) at.heard actor (Deliver 1 x) ∷ past_of at) ≡ buffer_of at.setup.now at.payload.now (other x) 1 (past_of at)
+  pub taker : (actor : ℕ) → manager_of at.setup.now at.payload.now (buffer_of at.setup.now at.payload.now (other x) 1 (past_of at) ∷ []) (other x) (entry_of at.setup.now at.payload.now (past_of at) at.heard actor (Deliver 1 x) ∷ past_of at) ≡ taken
+  pub sender : (actor : ℕ) → manager_of at.setup.now at.payload.now (buffer_of at.setup.now at.payload.now x 1 (past_of at) ∷ []) x (entry_of at.setup.now at.payload.now (past_of at) at.heard actor (Deliver 1 x) ∷ past_of at) ≡ sent
   pub posts_are : posted at.setup.now at.payload.now (past_of at) at.heard (Deliver 1 x) ≡ posts
 
 module _ (at : Moment) (x : Side) (c : Carried) (h k : Host) (landed : HasLanded at x c h k) (few : length at.history.now < 2 ^ 18) where
   abbrev First : Host
-  First = with_wire landed.before h
+  First = landed.was
 
   abbrev Past : List Entry
   Past = past_of at
@@ -66,17 +66,17 @@ module _ (at : Moment) (x : Side) (c : Carried) (h k : Host) (landed : HasLanded
   After actor = entry_of at.setup.now at.payload.now (past_of at) at.heard actor (Deliver 1 x)
 
   abbrev TheirRegions : List Buffer
-  TheirRegions = buffer_of at.setup.now at.payload.now (other x) (past_of at) ∷ []
+  TheirRegions = buffer_of at.setup.now at.payload.now (other x) 1 (past_of at) ∷ []
 
   abbrev OwnRegions : List Buffer
-  OwnRegions = buffer_of at.setup.now at.payload.now x (past_of at) ∷ []
+  OwnRegions = buffer_of at.setup.now at.payload.now x 1 (past_of at) ∷ []
 
   -- the managers before
   abbrev pub Their : Manager Half
-  Their = manager_of at.setup.now at.payload.now (buffer_of at.setup.now at.payload.now (other x) (past_of at) ∷ []) (other x) (past_of at)
+  Their = manager_of at.setup.now at.payload.now (buffer_of at.setup.now at.payload.now (other x) 1 (past_of at) ∷ []) (other x) (past_of at)
 
   abbrev pub Own : Manager Half
-  Own = manager_of at.setup.now at.payload.now (buffer_of at.setup.now at.payload.now x (past_of at) ∷ []) x (past_of at)
+  Own = manager_of at.setup.now at.payload.now (buffer_of at.setup.now at.payload.now x 1 (past_of at) ∷ []) x (past_of at)
 
   pub theirs-stand : StandsFor k.core Their
   theirs-stand = let hosts = landed.hosts in let theirs = hosts.theirs in theirs.side
@@ -86,17 +86,20 @@ module _ (at : Moment) (x : Side) (c : Carried) (h k : Host) (landed : HasLanded
       let hosts = landed.hosts in
       let set = hosts.set in
       let own = hosts.own in
-      landing-is at.setup.now at.payload.now x Past landed.before own.wire c set.one at.heard hosts.played landed.first
+      landing-is at.setup.now at.payload.now x Past (wire_at 1 landed.was) own.wire c set.one at.heard hosts.played landed.first
 
-  left : h.wire ≡ with_landed (would_land landed.before) landed.before
-  left = landed.wire ∙ ap (λ o. with_landed o landed.before) (sym landed.first)
+  left : IsLeft landed.was h
+  left = record { wire = landed.wire ∙ ap (λ o. with_landed o (wire_at 1 landed.was)) (sym landed.first); core = landed.core; flows = landed.flows }
+
+  own-stands : StandsFor h.core Own
+  own-stands = let hosts = landed.hosts in let own = hosts.own in subst (λ (v : Manager Kept). StandsFor v Own) (sym landed.core) own.side
 
   -- the posts of the sender, of which this is the first
-  first-posts : (rest : List Carried) → (landed.before).waiting ≡ c ∷ rest → (post : Post) → c.post ≡ post → waiting_posts x Past ≡ post ∷ map (λ (d : Carried). d.post) rest
+  first-posts : (rest : List Carried) → (wire_at 1 landed.was).waiting ≡ c ∷ rest → (post : Post) → c.post ≡ post → waiting_posts x Past ≡ post ∷ map (λ (d : Carried). d.post) rest
   first-posts rest is post e =
       let hosts = landed.hosts in
       let own = hosts.own in
-      wire-posts at.setup.now at.payload.now x Past landed.before own.wire ∙ (ap (λ (cs : List Carried). map (λ (d : Carried). d.post) cs) is ∙ ap (λ p. p ∷ map (λ (d : Carried). d.post) rest) e)
+      wire-posts at.setup.now at.payload.now x Past (wire_at 1 landed.was) own.wire ∙ (ap (λ (cs : List Carried). map (λ (d : Carried). d.post) cs) is ∙ ap (λ p. p ∷ map (λ (d : Carried). d.post) rest) e)
 
   -- the peer has taken it, and posts
   module _ (taken sent : Manager Half) (due : List Post) (t : IsTaking at x taken sent due) (told_now : Landed c.at ≡ deliver_told at.setup.now at.payload.now (other x) (past_of at) (landing 1 x (past_of at)))
@@ -104,19 +107,19 @@ module _ (at : Moment) (x : Side) (c : Carried) (h k : Host) (landed : HasLanded
     posts-now : posts ≡ posted at.setup.now at.payload.now (past_of at) at.heard (Deliver 1 x)
     posts-now = posts_are ∙ sym t.posts_are
 
-    stands-now : (actor : ℕ) → StandsFor v (Taker at.setup.now at.payload.now (past_of at) at.heard x (with_wire landed.before h) k landed.hosts (few-before at x (with_wire landed.before h) k landed.hosts few) actor)
+    stands-now : (actor : ℕ) → StandsFor v (Taker at.setup.now at.payload.now (past_of at) at.heard x landed.was k landed.hosts (few-before at x landed.was k landed.hosts few) actor)
     stands-now actor = subst (λ (b : Buffer). StandsFor v (manager_of at.setup.now at.payload.now (b ∷ []) (other x) (After actor ∷ Past))) (sym (t.buffer actor)) (subst (λ (m : Manager Half). StandsFor v m) (sym (t.taker actor)) acted)
 
     pub posts-may-go : MaySendAll (length k.flows.items) v posts
     posts-may-go = may-be-sent at x First k landed.hosts few v posts posts-now stands-now
 
-    pub posts-fit : length (filter goes_on_wire posts) ≤ room_of k.wire
+    pub posts-fit : length (filter goes_on_wire posts) ≤ room_of (wire_at 1 k)
     posts-fit = has-room at x First k landed.hosts few v posts posts-now stands-now
 
-    pub message-lands : StandsFor h.core sent → (l : Host) (entry : ℕ) → entry ≡ length at.history.now + 1 → l.core ≡ v → ((n : Manager Half) → StandsFor v n → l.wire ≡ with_posts (carried_from n entry 1 posts) k.wire)
+    pub message-lands : StandsFor h.core sent → (l : Host) (entry : ℕ) → entry ≡ length at.history.now + 1 → l.core ≡ v → ((n : Manager Half) → StandsFor v n → (wire_at 1 l) ≡ with_posts (carried_from n entry 1 posts) (wire_at 1 k))
         → l.flows.items ≡ puts_all posts k.flows.items → IsPlayedBy at (Deliver 1 x) (Landed c.at) posts x h l
     message-lands own_stands l entry number core_is wire_is flows_are =
-        sent-landing at x First k landed.hosts few v posts posts-now stands-now h.wire sent (Landed c.at) told_now left t.sender own_stands l entry number core_is wire_is flows_are
+        sent-landing at x First k landed.hosts few v posts posts-now stands-now h sent (Landed c.at) told_now left t.sender own_stands l entry number core_is wire_is flows_are
 
   -- a CDC message has landed
   module _ (link : LinkId) (m : CdcMessage) (is_cdc : c.post ≡ Cdc x link m) where
@@ -124,13 +127,13 @@ module _ (at : Moment) (x : Side) (c : Carried) (h k : Host) (landed : HasLanded
       pub s : ℕ
       pub sent : Sent
       pub may : MayLandIn m c.plain k.core
-      pub lands_in : LandsIn s m c.plain sent k.core (manager_of at.setup.now at.payload.now (buffer_of at.setup.now at.payload.now (other x) (past_of at) ∷ []) (other x) (past_of at))
+      pub lands_in : LandsIn s m c.plain sent k.core (manager_of at.setup.now at.payload.now (buffer_of at.setup.now at.payload.now (other x) 1 (past_of at) ∷ []) (other x) (past_of at))
       pub kept : dropped m.token k.core ≡ None
       pub told : Landed c.at ≡ deliver_told at.setup.now at.payload.now (other x) (past_of at) (landing 1 x (past_of at))
-      pub own_stands : StandsFor h.core (changes_end s lands (manager_of at.setup.now at.payload.now (buffer_of at.setup.now at.payload.now x (past_of at) ∷ []) x (past_of at)))
-      pub taking : IsTaking at x (acts_at s (takes (Some sent)) (manager_of at.setup.now at.payload.now (buffer_of at.setup.now at.payload.now (other x) (past_of at) ∷ []) (other x) (past_of at)))
-          (changes_end s lands (manager_of at.setup.now at.payload.now (buffer_of at.setup.now at.payload.now x (past_of at) ∷ []) x (past_of at)))
-          (due_at s (takes (Some sent)) (manager_of at.setup.now at.payload.now (buffer_of at.setup.now at.payload.now (other x) (past_of at) ∷ []) (other x) (past_of at)))
+      pub own_stands : StandsFor h.core (changes_end s lands (manager_of at.setup.now at.payload.now (buffer_of at.setup.now at.payload.now x 1 (past_of at) ∷ []) x (past_of at)))
+      pub taking : IsTaking at x (acts_at s (takes (Some sent)) (manager_of at.setup.now at.payload.now (buffer_of at.setup.now at.payload.now (other x) 1 (past_of at) ∷ []) (other x) (past_of at)))
+          (changes_end s lands (manager_of at.setup.now at.payload.now (buffer_of at.setup.now at.payload.now x 1 (past_of at) ∷ []) x (past_of at)))
+          (due_at s (takes (Some sent)) (manager_of at.setup.now at.payload.now (buffer_of at.setup.now at.payload.now (other x) 1 (past_of at) ∷ []) (other x) (past_of at)))
 
     pub cdc-taken : IsCdcTaken
     cdc-taken =
@@ -138,9 +141,9 @@ module _ (at : Moment) (x : Side) (c : Carried) (h k : Host) (landed : HasLanded
         let set = hosts.set in
         let own = hosts.own in
         let theirs = hosts.theirs in
-        let next = next-lands at.setup.now at.payload.now x Past landed.before own.wire c landed.first in
+        let next = next-lands at.setup.now at.payload.now x Past (wire_at 1 landed.was) own.wire c landed.first in
         let lendings = lent-now at x First k hosts few in
-        let d = message-landing at.setup.now at.payload.now set Past at.heard hosts.played x hosts.few lendings TheirRegions k.core theirs.side landed.before own.wire c next.rest x link m next.carried_is is_cdc in
+        let d = message-landing at.setup.now at.payload.now set Past at.heard hosts.played x hosts.few lendings TheirRegions k.core theirs.side (wire_at 1 landed.was) own.wire c next.rest x link m next.carried_is is_cdc in
         let told = message-told at.setup.now set.one at.payload.now Past at.heard hosts.played lendings OwnRegions x 0 (placed c) next-is (map placed next.rest) x link m next.queue_is is_cdc in
         let is : (regions : List Buffer) (actor : ℕ) → IsTaken at.setup.now at.payload.now regions x d.s d.sent (After actor) Past = λ regions actor.
         lands-message at.setup.now set.one at.payload.now Past at.heard hosts.played lendings regions x actor (placed c) next-is (map placed next.rest) x link m next.queue_is is_cdc d.s d.sent d.message d.next in
@@ -151,7 +154,7 @@ module _ (at : Moment) (x : Side) (c : Carried) (h k : Host) (landed : HasLanded
           lands_in = d.lands;
           kept = d.kept;
           told = told;
-          own_stands = left-stands d.s h.core Own own.side;
+          own_stands = left-stands d.s h.core Own own-stands;
           taking = record {
             buffer = λ actor. buffer-stays-cdc at.setup.now at.payload.now x (After actor) Past (one-lands at.setup.now at.payload.now Past at.heard x First k hosts (few-before at x First k hosts few) actor (placed c) next-is told) x link m
                 (map (λ (d : Carried). d.post) next.rest) (first-posts next.rest next.carried_is (Cdc x link m) is_cdc);
@@ -170,10 +173,10 @@ module _ (at : Moment) (x : Side) (c : Carried) (h k : Host) (landed : HasLanded
       pub may : (view : LinkView) → MayConfirm m view link k.core
       pub sound : IsSoundAt k.core.records.terms.size (conn_at k.core.desk.first k.core.records)
       pub told : Landed c.at ≡ deliver_told at.setup.now at.payload.now (other x) (past_of at) (landing 1 x (past_of at))
-      pub own_stands : StandsFor h.core (manager_of at.setup.now at.payload.now (buffer_of at.setup.now at.payload.now x (past_of at) ∷ []) x (past_of at))
-      pub taking : IsTaking at x (confirms_link (Live reply true) the_link (manager_of at.setup.now at.payload.now (buffer_of at.setup.now at.payload.now (other x) (past_of at) ∷ []) (other x) (past_of at)))
-          (manager_of at.setup.now at.payload.now (buffer_of at.setup.now at.payload.now x (past_of at) ∷ []) x (past_of at))
-          (confirming_posts (Live reply true) the_link (manager_of at.setup.now at.payload.now (buffer_of at.setup.now at.payload.now (other x) (past_of at) ∷ []) (other x) (past_of at)))
+      pub own_stands : StandsFor h.core (manager_of at.setup.now at.payload.now (buffer_of at.setup.now at.payload.now x 1 (past_of at) ∷ []) x (past_of at))
+      pub taking : IsTaking at x (confirms_link (Live reply true) the_link (manager_of at.setup.now at.payload.now (buffer_of at.setup.now at.payload.now (other x) 1 (past_of at) ∷ []) (other x) (past_of at)))
+          (manager_of at.setup.now at.payload.now (buffer_of at.setup.now at.payload.now x 1 (past_of at) ∷ []) x (past_of at))
+          (confirming_posts (Live reply true) the_link (manager_of at.setup.now at.payload.now (buffer_of at.setup.now at.payload.now (other x) 1 (past_of at) ∷ []) (other x) (past_of at)))
 
     pub llc-taken : IsLlcTaken
     llc-taken =
@@ -181,9 +184,9 @@ module _ (at : Moment) (x : Side) (c : Carried) (h k : Host) (landed : HasLanded
         let set = hosts.set in
         let own = hosts.own in
         let theirs = hosts.theirs in
-        let next = next-lands at.setup.now at.payload.now x Past landed.before own.wire c landed.first in
+        let next = next-lands at.setup.now at.payload.now x Past (wire_at 1 landed.was) own.wire c landed.first in
         let lendings = lent-now at x First k hosts few in
-        let d = confirmation at.setup.now at.payload.now set Past at.heard hosts.played TheirRegions x k.core theirs.side landed.before own.wire c next.rest x link m next.carried_is is_llc in
+        let d = confirmation at.setup.now at.payload.now set Past at.heard hosts.played TheirRegions x k.core theirs.side (wire_at 1 landed.was) own.wire c next.rest x link m next.carried_is is_llc in
         let told = llc-told at.setup.now set.one at.payload.now Past at.heard hosts.played lendings x (placed c) next-is x link m is_llc in
         let is : (regions : List Buffer) (actor : ℕ) → IsConfirmed at.setup.now at.payload.now regions (other x) d.reply (After actor) Past = λ regions actor.
         lands-llc at.setup.now set.one at.payload.now Past at.heard hosts.played lendings regions x actor (placed c) next-is (Llc x link m) d.reply is_llc d.front in
@@ -194,7 +197,7 @@ module _ (at : Moment) (x : Side) (c : Carried) (h k : Host) (landed : HasLanded
           may = d.may;
           sound = sound-at at.setup.now at.payload.now set Past at.heard hosts.played hosts.few (other x) TheirRegions k.core theirs.side k.core.desk.first;
           told = told;
-          own_stands = own.side;
+          own_stands = own-stands;
           taking = record {
             buffer = λ actor. buffer-stays-llc at.setup.now at.payload.now x (After actor) Past (one-lands at.setup.now at.payload.now Past at.heard x First k hosts (few-before at x First k hosts few) actor (placed c) next-is told) x link m
                 (map (λ (d : Carried). d.post) next.rest) (first-posts next.rest next.carried_is (Llc x link m) is_llc);

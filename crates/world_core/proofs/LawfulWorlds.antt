@@ -31,8 +31,8 @@ pub fresh_is_lawful : (setup : Setup) (payload : List ℕ) (room : Room) → bad
 fresh_is_lawful setup payload room e = let g = good setup room e in record { one = g.one; played = refl; heard_is = refl }
 
 -- a world that its hosts stand for
-pub world_is_lawful : (w : Seen) (a b : Host) (opened : List ℕ) (history_room heard_room opened_room : ℕ) → IsWorldAfter w a b opened history_room heard_room opened_room → IsLawfulWorld w
-world_is_lawful w a b opened history_room heard_room opened_room k = let h = k.hosts in let set = h.set in record { one = set.one; played = h.played; heard_is = k.heard_is }
+pub world_is_lawful : (w : Seen) (a b : Host) (opened : List ℕ) (paths : List Bool) (history_room heard_room opened_room : ℕ) → IsWorldAfter w a b opened paths history_room heard_room opened_room → IsLawfulWorld w
+world_is_lawful w a b opened paths history_room heard_room opened_room k = let h = k.hosts in let set = h.set in record { one = set.one; played = h.played; heard_is = k.heard_is }
 
 -- an event that fits is one that is built
 pub is-built : (setup : Setup) (payload : ℕ) (event : Event) → Fits setup payload event → IsBuilt setup payload event

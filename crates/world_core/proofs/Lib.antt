@@ -100,6 +100,7 @@ pub mod Offers
 pub mod OnWay
 pub mod OnWire
 pub mod OneSender
+pub mod OnlyReads
 pub mod OpenEnds
 pub mod OpenManagers
 pub mod Openings

@@ -16,7 +16,7 @@ use Rattle.pipe_model.specs.Calls.{Plain}
 use Rattle.pipe_model.specs.Replies.{told, deliver_told, lands_told}
 use Rattle.world_core.specs.Steps.{does_something}
 use Rattle.world_core.specs.declared.host.Host.{Host}
-use Rattle.world_core.specs.Hosts.{AreHostsAfter}
+use Rattle.world_core.specs.Hosts.{AreHostsAfter, wire_at}
 use Rattle.rc_link.specs.Wire.{landing as would_land, completing as would_complete}
 use Rattle.world_core.proofs.WireMoves.{lands-alike, completes-alike}
 
@@ -41,14 +41,14 @@ completes-told None = refl
 completes-told (Some c) = refl
 
 module _ (setup : Setup) (payload : List ℕ) (past : List Entry) (heard : ℕ) (x : Side) (h k : Host) (hosts : AreHostsAfter setup payload past heard x h k) where
-  pub would-land : is_some (would_land h.wire) ≡ does_something (told setup payload past (Deliver 1 x))
+  pub would-land : is_some (would_land (wire_at 1 h)) ≡ does_something (told setup payload past (Deliver 1 x))
   would-land =
       let own = hosts.own in
       let set = hosts.set in
-      lands-alike setup payload x past h.wire own.wire set.one heard hosts.played ∙ lands-told setup payload (other x) past (landing 1 x past)
+      lands-alike setup payload x past (wire_at 1 h) own.wire set.one heard hosts.played ∙ lands-told setup payload (other x) past (landing 1 x past)
 
-  pub would-complete : is_some (would_complete h.wire) ≡ does_something (told setup payload past (Complete 1 x))
+  pub would-complete : is_some (would_complete (wire_at 1 h)) ≡ does_something (told setup payload past (Complete 1 x))
   would-complete =
       let own = hosts.own in
       let set = hosts.set in
-      completes-alike setup payload x past h.wire own.wire set.one heard hosts.played ∙ completes-told (completing 1 x past)
+      completes-alike setup payload x past (wire_at 1 h) own.wire set.one heard hosts.played ∙ completes-told (completing 1 x past)

@@ -137,7 +137,7 @@ module _ (setup : Setup) (one : IsOneLink setup) (payload : List ℕ) (e : Entry
   -- the bytes reach as far as what is left on the wire begins
   pub finish : (left : ℕ) → Moved left → left ≤ length Now.sent → (posts : List Post) → waiting_posts x (e ∷ past) ≡ posts ++ filter (is_on the_link x) e.posts → (reach t : ℕ) →
       Carries Size x (offered_place o.offer) o.offer.token reach posts (drop left Now.sent) Now.last.told → GoOn t (drop left Now.sent) Now.last.told → t ≤ reach →
-      Stand Size (offered_place o.offer) Taker.rd reach Now.out (peer_buffer setup payload x (e ∷ past)) → Reaches setup payload x s o (e ∷ past)
+      Stand Size (offered_place o.offer) Taker.rd reach Now.out (peer_buffer setup payload x 1 (e ∷ past)) → Reaches setup payload x s o (e ∷ past)
   finish left m within posts w reach t c g l stood =
       let gone = m.gone in
       let sh = shaken setup one payload (e ∷ past) n p in
@@ -159,6 +159,6 @@ module _ (setup : Setup) (one : IsOneLink setup) (payload : List ℕ) (e : Entry
             (subst (λ ms. Carries Size x (offered_place o.offer) o.offer.token reach (posts ++ filter (is_on the_link x) e.posts) ms Then.last.told) (sym landing)
             (carries-append Size x (offered_place o.offer) o.offer.token (filter (is_on the_link x) e.posts) gone.more Now.last.told Then.last.told (news setup one payload e past n p x s o f left m.completed gone) reach posts (drop left Now.sent) c));
         told = omega (arith, start, l);
-        stand = subst (λ bytes. Stand Size (offered_place o.offer) (half (other x) (pipe T (I ++ P))).rd reach bytes (peer_buffer setup payload x (e ∷ past))) (sym more.1)
-            (stand-grown Size (offered_place o.offer) (peer_buffer setup payload x (e ∷ past)) Taker.rd reach (half (other x) (pipe T (I ++ P))).rd Now.out more.0 rd.0 (omega (arith, up, cn.told)) stood);
+        stand = subst (λ bytes. Stand Size (offered_place o.offer) (half (other x) (pipe T (I ++ P))).rd reach bytes (peer_buffer setup payload x 1 (e ∷ past))) (sym more.1)
+            (stand-grown Size (offered_place o.offer) (peer_buffer setup payload x 1 (e ∷ past)) Taker.rd reach (half (other x) (pipe T (I ++ P))).rd Now.out more.0 rd.0 (omega (arith, up, cn.told)) stood);
       }

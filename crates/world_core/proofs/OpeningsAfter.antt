@@ -31,7 +31,7 @@ use Rattle.world_core.specs.Managers.{manager_of}
 use Rattle.world_core.specs.Sending.{carried_from, moved, puts_all}
 use Rattle.world_core.specs.Handing.{has_end}
 use Rattle.world_core.specs.Steps.{entry_of}
-use Rattle.world_core.specs.Hosts.{AreHostsAfter, IsHostAfter, with_posts}
+use Rattle.world_core.specs.Hosts.{AreHostsAfter, IsHostAfter, with_posts, wire_at}
 use Rattle.world_core.specs.OneLink.{the_link}
 use Rattle.world_core.specs.WireSteps.{landing_now}
 use Rattle.world_core.specs.Agreement.{IsShaken}
@@ -94,19 +94,19 @@ module _ (setup : Setup) (payload : List ℕ) (past : List Entry) (heard s : ℕ
   raw-is = let st = place.stands in st.raw
 
   client-is : state_at s client.core ≡ end_state A s past
-  client-is = let own = before.own in state-is setup payload (buffer_of setup payload A past ∷ []) A past client.core own.side s known
+  client-is = let own = before.own in state-is setup payload (buffer_of setup payload A 1 past ∷ []) A past client.core own.side s known
 
   server-is : state_at s server.core ≡ end_state B s past
-  server-is = let theirs = before.theirs in state-is setup payload (buffer_of setup payload B past ∷ []) B past server.core theirs.side s known
+  server-is = let theirs = before.theirs in state-is setup payload (buffer_of setup payload B 1 past ∷ []) B past server.core theirs.side s known
 
   there-is : has_end (state_at s client.core) ≡ is_opened s past
   there-is = ap has_end (client-is ∙ end-is setup place.at s past place.stands A) ∙ (end-there place.at ∙ sym opened-is)
 
   pub socket-at-client : s < length client.core.hands
-  socket-at-client = let own = before.own in stood setup payload (buffer_of setup payload A past ∷ []) A past client.core own.side s known
+  socket-at-client = let own = before.own in stood setup payload (buffer_of setup payload A 1 past ∷ []) A past client.core own.side s known
 
   pub socket-at-server : s < length server.core.hands
-  socket-at-server = let theirs = before.theirs in stood setup payload (buffer_of setup payload B past ∷ []) B past server.core theirs.side s known
+  socket-at-server = let theirs = before.theirs in stood setup payload (buffer_of setup payload B 1 past ∷ []) B past server.core theirs.side s known
 
   module _ (new : has_end (state_at s client.core) ≡ false) where
     unopened : is_opened s past ≡ false
@@ -151,8 +151,8 @@ module _ (setup : Setup) (payload : List ℕ) (past : List Entry) (heard s : ℕ
       their-flows setup set.one payload (entry_of setup payload past heard actor (Open s)) past (heard + 0) (heard, record { built = known; reply = refl; posts = refl }, refl, before.played) B refl server.flows.items (λ t. refl) (λ t. refl) theirs.flows
 
   -- a host at a side, whose manager stands for that of the history with the entry
-  server-then : (actor : ℕ) (l : Host) → StandsFor l.core (manager_of setup payload (buffer_of setup payload B past ∷ []) B (entry_of setup payload past heard actor (Open s) ∷ past))
-      → l.wire ≡ server.wire → l.flows.items ≡ server.flows.items → IsHostAfter setup payload B (entry_of setup payload past heard actor (Open s) ∷ past) l
+  server-then : (actor : ℕ) (l : Host) → StandsFor l.core (manager_of setup payload (buffer_of setup payload B 1 past ∷ []) B (entry_of setup payload past heard actor (Open s) ∷ past))
+      → (wire_at 1 l) ≡ (wire_at 1 server) → l.flows.items ≡ server.flows.items → IsHostAfter setup payload B (entry_of setup payload past heard actor (Open s) ∷ past) l
   server-then actor l st wire flows =
       let theirs = before.theirs in
       theirs-then setup payload past heard (Open s) client server before few known lands-none unmoved-by silent-by actor l st wire (ap length flows ∙ theirs.sockets)
@@ -171,8 +171,8 @@ module _ (setup : Setup) (payload : List ℕ) (past : List Entry) (heard s : ℕ
         reply_is = sym told-is;
         posts_are = none ∙ sym (let q = nothing [] 0 in q.posts);
         after = λ actor.
-            let of-a = nothing (buffer_of setup payload A past ∷ []) actor in
-            let of-b = nothing (buffer_of setup payload B past ∷ []) actor in
+            let of-a = nothing (buffer_of setup payload A 1 past ∷ []) actor in
+            let of-b = nothing (buffer_of setup payload B 1 past ∷ []) actor in
             hosts-after setup payload before.set past heard before.played (Open s) known actor few A client server
             (own-kept setup payload past heard (Open s) client server before few known lands-none unmoved-by silent-by actor client (subst (λ (m : Manager Half). StandsFor client.core m) (sym (of-a.kept A)) own.side) of-a.posts refl refl)
             (server-then actor server (subst (λ (m : Manager Half). StandsFor server.core m) (sym (of-b.kept B)) theirs.side) refl refl);
@@ -180,8 +180,8 @@ module _ (setup : Setup) (payload : List ℕ) (past : List Entry) (heard s : ℕ
 
   -- a side is not capable
   pub fallen-back : has_end (state_at s client.core) ≡ false → (a-is && b-is) ≡ false → (posts : List Post) → posts ≡ [] → (g l : Host)
-      → ((m : Manager Half) → StandsFor client.core m → StandsFor g.core (falls_at s m)) → g.wire ≡ client.wire → g.flows.items ≡ client.flows.items
-      → ((m : Manager Half) → StandsFor server.core m → StandsFor l.core (falls_at s m)) → l.wire ≡ server.wire → l.flows.items ≡ server.flows.items
+      → ((m : Manager Half) → StandsFor client.core m → StandsFor g.core (falls_at s m)) → (wire_at 1 g) ≡ (wire_at 1 client) → g.flows.items ≡ client.flows.items
+      → ((m : Manager Half) → StandsFor server.core m → StandsFor l.core (falls_at s m)) → (wire_at 1 l) ≡ (wire_at 1 server) → l.flows.items ≡ server.flows.items
       → PlaysBy setup payload past heard (Open s) (Declined (NotCapable a-is b-is)) posts A g l
   fallen-back new lacks posts none g l falls wire flows falls-too wire-too flows-too =
       let told-is : open_told setup s past ≡ Declined (NotCapable a-is b-is) = told-new new false lacks in
@@ -193,8 +193,8 @@ module _ (setup : Setup) (payload : List ℕ) (past : List Entry) (heard s : ℕ
         reply_is = sym told-is;
         posts_are = none ∙ sym (let q = set-so [] 0 in q.posts_are);
         after = λ actor.
-            let of-a = set-so (buffer_of setup payload A past ∷ []) actor in
-            let of-b = set-so (buffer_of setup payload B past ∷ []) actor in
+            let of-a = set-so (buffer_of setup payload A 1 past ∷ []) actor in
+            let of-b = set-so (buffer_of setup payload B 1 past ∷ []) actor in
             hosts-after setup payload before.set past heard before.played (Open s) known actor few A g l
             (own-kept setup payload past heard (Open s) client server before few known lands-none unmoved-by silent-by actor g (subst (λ (m : Manager Half). StandsFor g.core m) (sym (of-a.both A)) (falls _ own.side)) of-a.posts_are wire flows)
             (server-then actor l (subst (λ (m : Manager Half). StandsFor l.core m) (sym (of-b.both B)) (falls-too _ theirs.side)) wire-too flows-too);
@@ -213,8 +213,8 @@ module _ (setup : Setup) (payload : List ℕ) (past : List Entry) (heard s : ℕ
 
   -- the handshake begins
   pub begun : has_end (state_at s client.core) ≡ false → (a-is && b-is) ≡ true → (posts : List Post) → posts ≡ (([] ++ opening_posts s client.core.desk) ++ opening_posts s server.core.desk) → (number : ℕ) → number ≡ next_number past → (v : Manager Kept) (g l : Host)
-      → ((m : Manager Half) → StandsFor client.core m → StandsFor v (opens_at s false m)) → g.core ≡ v → ((m : Manager Half) → StandsFor v m → g.wire ≡ with_posts (carried_from m number 1 posts) client.wire) → g.flows.items ≡ puts_all posts client.flows.items
-      → ((m : Manager Half) → StandsFor server.core m → StandsFor l.core (opens_at s false m)) → l.wire ≡ server.wire → l.flows.items ≡ server.flows.items
+      → ((m : Manager Half) → StandsFor client.core m → StandsFor v (opens_at s false m)) → g.core ≡ v → ((m : Manager Half) → StandsFor v m → (wire_at 1 g) ≡ with_posts (carried_from m number 1 posts) (wire_at 1 client)) → g.flows.items ≡ puts_all posts client.flows.items
+      → ((m : Manager Half) → StandsFor server.core m → StandsFor l.core (opens_at s false m)) → (wire_at 1 l) ≡ (wire_at 1 server) → l.flows.items ≡ server.flows.items
       → PlaysBy setup payload past heard (Open s) Opened posts A g l
   begun new able posts posts-are number n v g l opens core wire flows opens-too wire-too flows-too =
       let told-is : open_told setup s past ≡ Opened = told-new new true able in
@@ -227,10 +227,10 @@ module _ (setup : Setup) (payload : List ℕ) (past : List Entry) (heard s : ℕ
         reply_is = sym told-is;
         posts_are = posts-so;
         after = λ actor.
-            let of-a = set-so (buffer_of setup payload A past ∷ []) actor in
-            let of-b = set-so (buffer_of setup payload B past ∷ []) actor in
+            let of-a = set-so (buffer_of setup payload A 1 past ∷ []) actor in
+            let of-b = set-so (buffer_of setup payload B 1 past ∷ []) actor in
             hosts-after setup payload before.set past heard before.played (Open s) known actor few A g l
-            (own-sent setup payload past heard (Open s) client server before few known lands-none unmoved-by silent-by actor g (subst (λ (m : Manager Half). StandsFor g.core m) (sym (of-a.both A)) (subst (λ w. StandsFor w (opens_at s false (manager_of setup payload (buffer_of setup payload A past ∷ []) A past))) (sym core) (opens _ own.side))) posts posts-so number n
+            (own-sent setup payload past heard (Open s) client server before few known lands-none unmoved-by silent-by actor g (subst (λ (m : Manager Half). StandsFor g.core m) (sym (of-a.both A)) (subst (λ w. StandsFor w (opens_at s false (manager_of setup payload (buffer_of setup payload A 1 past ∷ []) A past))) (sym core) (opens _ own.side))) posts posts-so number n
             (λ m st. wire m (subst (λ w. StandsFor w m) core st)) flows)
             (server-then actor l (subst (λ (m : Manager Half). StandsFor l.core m) (sym (of-b.both B)) (opens-too _ theirs.side)) wire-too flows-too);
       }

@@ -1,8 +1,10 @@
 -- After each entry of a played history the wire of the side that acts stands for it again, has had room for the posts, and each may be sent.
-use Rattle.std.proofs.Common.{◌≡◌, ◌∙◌, ℕ, ◌^◌, ◌+◌, ◌*◌, ◌≤◌, Bool, true, false, List, [], ◌∷◌, ◌++◌, length, map, filter, filter_map, refl, ap, sym, subst, true≢false, arith, length-append}
+use Rattle.std.proofs.Common.{◌≡◌, ◌∙◌, ℕ, ◌^◌, ◌+◌, ◌*◌, ◌≤◌, Bool, true, false, List, [], ◌∷◌, ◌++◌, length, map, filter, filter_map, refl, ap, sym, subst, true≢false, arith, length-append, one-mul, mul-add, mul_left_comm, mul_comm}
 use Rattle.std.specs.Prelude.{Option, Some, None, IsSome, is_some}
 use Rattle.std.proofs.lemmas.List.{length-map}
 use Rattle.smc_num.specs.declared.Side.{Side}
+use Rattle.smc_num.specs.declared.Side.TheVariants.{A, B}
+use Rattle.smc_num.specs.declared.LinkId.{LinkId}
 use Rattle.smc_num.specs.Names.{other, head}
 use Rattle.cdc_wire.specs.declared.CdcMessage.{CdcMessage}
 use Rattle.clc_wire.specs.declared.message.ClcMessage.{ClcMessage}
@@ -14,7 +16,7 @@ use Rattle.pipe_model.specs.declared.setup.Setup.{Setup}
 use Rattle.pipe_model.specs.declared.post.Post.{Post}
 use Rattle.pipe_model.specs.declared.post.Post.TheVariants.{Write, Cdc, Llc, Clc}
 use Rattle.pipe_model.specs.declared.entry.Entry.{Entry}
-use Rattle.pipe_model.specs.Words.{element_size, elements_of}
+use Rattle.pipe_model.specs.Words.{element_size, rmbs_of, elements_of}
 use Rattle.pipe_model.specs.History.{Offered, offered, next_number}
 use Rattle.pipe_model.specs.Wires.{unlanded, uncompleted}
 use Rattle.pipe_model.specs.Ends.{Half}
@@ -36,7 +38,7 @@ use Rattle.world_core.specs.Goings.{Going, Stayed, Lands_own, Lands_other, Compl
 use Rattle.world_core.specs.Agreement.{HasOffers, GivesItems, GoesOn, IsShaken, PostsOne}
 use Rattle.world_core.specs.Managers.{manager_of, HasLendings}
 use Rattle.world_core.proofs.ClcFits.{untaken-fits}
-use Rattle.world_core.specs.Hosts.{IsWorldSet, half_of, plains, shots, IsWireAfter, with_posts}
+use Rattle.world_core.specs.Hosts.{IsWorldSet, half_of, plains, shots, IsWireAfter, with_posts, places_of}
 use Rattle.world_core.specs.Sending.{carried_from, goes_on_wire, moved, acting_side, MaySendAll}
 use Rattle.world_core.proofs.Handshaken.{shaken, has-offers, gives-items}
 use Rattle.world_core.proofs.PlayedWorlds.{played}
@@ -63,13 +65,30 @@ abbrev pub IsAimed : Manager Kept → Post → Type 0
 IsAimed v (Cdc from link m) = IsSome (aimer m.token v.records)
 IsAimed v _ = Unit {0}
 
+-- the one link is on the one slot
+pub one-slot : (link : LinkId) → link ≡ the_link → link.slot ≡ 1
+one-slot link e = ap (λ (l : LinkId). l.slot) e
+
 -- each may be sent
-may-all : (sockets : ℕ) (x : Side) (past : List Entry) (v : Manager Kept) (posts : List Post) → ((s : ℕ) (m : ClcMessage) → head (untaken x s past) ≡ Some m → Fits m) → EachPost (IsAimed v) posts → EachPost (IsPosted sockets x past) posts → MaySendAll sockets v posts
-may-all sockets x past v [] fit f g = tt
-may-all sockets x past v (Cdc from link m ∷ posts) fit f g = (f.0, may-all sockets x past v posts fit f.1 g.1)
-may-all sockets x past v (Clc from s link m ∷ posts) fit f g = let known = g.0 in ((known.0, fit s m known.1), may-all sockets x past v posts fit f.1 g.1)
-may-all sockets x past v (Write from link key address len ∷ posts) fit f g = (tt, may-all sockets x past v posts fit f.1 g.1)
-may-all sockets x past v (Llc from link m ∷ posts) fit f g = (tt, may-all sockets x past v posts fit f.1 g.1)
+may-all : (sockets : ℕ) (x : Side) (past : List Entry) (v : Manager Kept) (posts : List Post) → ((s : ℕ) (m : ClcMessage) → head (untaken x s past) ≡ Some m → Fits m) → EachPost (IsAimed v) posts → EachPost (IsPosted sockets x past) posts
+    → EachPost (IsSentBy sockets x) posts → MaySendAll sockets v posts
+may-all sockets x past v [] fit f g h = tt
+may-all sockets x past v (Cdc from link m ∷ posts) fit f g h = ((one-slot link h.0.1, f.0), may-all sockets x past v posts fit f.1 g.1 h.1)
+may-all sockets x past v (Clc from s link m ∷ posts) fit f g h = let known = g.0 in ((known.0, fit s m known.1), may-all sockets x past v posts fit f.1 g.1 h.1)
+may-all sockets x past v (Write from link key address len ∷ posts) fit f g h = (one-slot link h.0.1, may-all sockets x past v posts fit f.1 g.1 h.1)
+may-all sockets x past v (Llc from link m ∷ posts) fit f g h = (one-slot link h.0.1, may-all sockets x past v posts fit f.1 g.1 h.1)
+
+-- each element has places for its snapshots
+one-rmb : (setup : Setup) → IsOneLink setup → (x : Side) → rmbs_of setup x ≡ 1
+one-rmb setup one A = one.rmbs_a
+one-rmb setup one B = one.rmbs_b
+
+room-enough : (rmbs elements depth : ℕ) → rmbs ≡ 1 → 3 * (depth * elements) + 1 ≤ rmbs * elements * (3 * depth + 1) + 32
+room-enough rmbs elements depth e =
+    let one : 1 * elements * (3 * depth + 1) ≡ elements * (3 * depth + 1) = ap (λ n. n * (3 * depth + 1)) (one-mul elements) in
+    let each : elements * (3 * depth + 1) ≡ elements * (3 * depth) + elements * 1 = mul-add elements (3 * depth) 1 in
+    let same : elements * (3 * depth) ≡ 3 * (depth * elements) = mul_left_comm elements 3 depth ∙ ap (λ n. 3 * n) (mul_comm elements depth) in
+    subst (λ r. 3 * (depth * elements) + 1 ≤ r * elements * (3 * depth + 1) + 32) (sym e) (omega (arith, one, each, same))
 
 is-there : (o : Option ℕ) (s : ℕ) → o ≡ Some s → IsSome o
 is-there (Some t) s e = refl
@@ -187,7 +206,7 @@ module _ (setup : Setup) (one : IsOneLink setup) (payload : List ℕ) (e : Entry
       -- each post may be sent
       pub may-send : length (e ∷ past) ≤ 2 ^ 18 → IsWorldSet setup payload → (v : Manager Kept) → StandsFor v N → MaySendAll setup.sockets v e.posts
       may-send few worlds v stands =
-          may-all setup.sockets x (e ∷ past) v e.posts (λ s m first. untaken-fits setup one payload (e ∷ past) n p few x (worlds.set x) x s m first) (each-aimed v stands) (clc-posted setup one payload e past n p x acts)
+          may-all setup.sockets x (e ∷ past) v e.posts (λ s m first. untaken-fits setup one payload (e ∷ past) n p few x (worlds.set x) x s m first) (each-aimed v stands) (clc-posted setup one payload e past n p x acts) from
 
   -- the wire has room for the posts
   pub room-own : (x : Side) → acting_side e.event ≡ x → (w : Queues) → IsWireAfter setup payload x past w → length (filter goes_on_wire e.posts) ≤ room_of (moved x e.event w)
@@ -207,5 +226,6 @@ module _ (setup : Setup) (one : IsOneLink setup) (payload : List ℕ) (e : Entry
       let k : length (v.waiting ++ cs) ≡ length v.waiting + length cs = length-append v.waiting cs in
       let both : length (unlanded the_link x (e ∷ past) ++ uncompleted the_link x (e ∷ past)) ≡ length (unlanded the_link x (e ∷ past)) + length (uncompleted the_link x (e ∷ past)) = length-append (unlanded the_link x (e ∷ past)) (uncompleted the_link x (e ∷ past)) in
       let most : length (unlanded the_link x (e ∷ past) ++ uncompleted the_link x (e ∷ past)) ≤ 3 * (setup.depth * elements_of setup x) + 1 = fits.posts in
-      let places : v.places ≡ 3 * (setup.depth * elements_of setup x) + 1 = c.places in
-      omega (arith, long, waiting, landed, i, j, k, both, most, places)
+      let places : v.places ≡ places_of setup x = c.places in
+      let enough = room-enough (rmbs_of setup x) (elements_of setup x) setup.depth (one-rmb setup one x) in
+      omega (arith, long, waiting, landed, i, j, k, both, most, places, enough)

@@ -8,6 +8,7 @@ use Rattle.rmb_region.specs.Regions.{Buffer, read_round, fresh as fresh_buffer}
 use Rattle.tcp_pipe.specs.Streams.{Direction}
 use Rattle.clc_wire.specs.declared.offer.Offer.{Offer}
 use Rattle.pipe_model.specs.declared.entry.Entry.{Entry}
+use Rattle.pipe_model.specs.declared.setup.Setup.{Setup}
 use Rattle.pipe_model.specs.declared.event.End.{End}
 use Rattle.pipe_model.specs.declared.event.Event.{Event}
 use Rattle.pipe_model.specs.declared.event.Event.TheVariants.{Read}
@@ -37,7 +38,6 @@ use Rattle.side_core.specs.Acting.{handed_from, handed_out}
 use Rattle.side_core.specs.Manager.{Manager, StandsFor, state_at}
 use Rattle.side_core.specs.Records.{Connection, half_at, route_at}
 use Rattle.world_core.specs.declared.host.Host.{Host}
-use Rattle.world_core.specs.declared.moment.Moment.{Moment}
 use Rattle.world_core.specs.OneLink.{the_link}
 use Rattle.world_core.specs.Sockets.{IsOffer}
 use Rattle.world_core.specs.Managers.{manager_of, records_of, end_of, route_of}
@@ -45,7 +45,7 @@ use Rattle.world_core.specs.Landed.{buffer_of}
 use Rattle.world_core.specs.Played.{IsOneLink, handed}
 use Rattle.world_core.specs.Heard.{told_bytes}
 use Rattle.world_core.specs.Sending.{outflow_at}
-use Rattle.world_core.specs.Hosts.{AreHosts, past_of}
+use Rattle.world_core.specs.Hosts.{AreHostsAfter}
 use Rattle.world_core.specs.Calling.{taken}
 use Rattle.world_core.proofs.PlayedWorlds.{played}
 use Rattle.world_core.proofs.Handshaken.{shaken}
@@ -108,50 +108,47 @@ module _ (size : ℕ) (r : Route) (b : Buffer) (rd count : ℕ) (out places : Li
   all-handed WasDone e at bytes long one = none-handed e
   all-handed (ByReset cause) e at bytes long one = none-handed e
 
-module _ (at : Moment) (end : End) (len : ℕ) (own theirs : Host) (hosts : AreHosts at end.side own theirs) (socket : end.s < at.setup.now.sockets) where
-  abbrev pub Past : List Entry
-  Past = past_of at
-
+module _ (setup : Setup) (payload : List ℕ) (past : List Entry) (heard : ℕ) (end : End) (len : ℕ) (own theirs : Host) (hosts : AreHostsAfter setup payload past heard end.side own theirs) (socket : end.s < setup.sockets) where
   abbrev pub read_event : Event
   read_event = Read end len
 
   abbrev pub read_told : Told
-  read_told = told at.setup.now at.payload.now Past read_event
+  read_told = told setup payload past read_event
 
   -- the two ends of its connection
   abbrev pub here : Half
-  here = end_of at.setup.now at.payload.now end.side end.s Past
+  here = end_of setup payload end.side end.s past
 
   abbrev pub peer_out : List ℕ
-  peer_out = (half (other end.side) (pipe_of at.setup.now at.payload.now (group_on end.s Past) end.s Past)).out
+  peer_out = (half (other end.side) (pipe_of setup payload (group_on end.s past) end.s past)).out
 
   abbrev Size : ℕ
-  Size = element_size at.setup.now
+  Size = element_size setup
 
-  one : IsOneLink at.setup.now
+  one : IsOneLink setup
   one = let set = hosts.set in set.one
 
-  pub state : state_at end.s own.core ≡ end_state end.side end.s Past
-  state = let o = hosts.own in state-is at.setup.now at.payload.now (buffer_of at.setup.now at.payload.now end.side Past ∷ []) end.side Past own.core o.side end.s socket
+  pub state : state_at end.s own.core ≡ end_state end.side end.s past
+  state = let o = hosts.own in state-is setup payload (buffer_of setup payload end.side 1 past ∷ []) end.side past own.core o.side end.s socket
 
-  pub up-is : (st : EndState) → state_at end.s own.core ≡ st → is_up end.side end.s Past ≡ is_up_state st
-  up-is st e = let i = is-end at.setup.now one at.payload.now Past at.heard hosts.played end.side end.s in sym i.up ∙ ap (λ s. is_up_state s) (sym state ∙ e)
+  pub up-is : (st : EndState) → state_at end.s own.core ≡ st → is_up end.side end.s past ≡ is_up_state st
+  up-is st e = let i = is-end setup one payload past heard hosts.played end.side end.s in sym i.up ∙ ap (λ s. is_up_state s) (sym state ∙ e)
 
-  pub fallen-is : (st : EndState) → state_at end.s own.core ≡ st → is_fallen end.side end.s Past ≡ is_fallen_state st
+  pub fallen-is : (st : EndState) → state_at end.s own.core ≡ st → is_fallen end.side end.s past ≡ is_fallen_state st
   fallen-is st e = ap (λ s. is_fallen_state s) (sym state ∙ e)
 
-  pub told-is : (st : EndState) → state_at end.s own.core ≡ st → read_told ≡ end_told at.setup.now at.payload.now end (Reads len) Past st
-  told-is st e = ap (λ s. end_told at.setup.now at.payload.now end (Reads len) Past s) (sym state ∙ e)
+  pub told-is : (st : EndState) → state_at end.s own.core ≡ st → read_told ≡ end_told setup payload end (Reads len) past st
+  told-is st e = ap (λ s. end_told setup payload end (Reads len) past s) (sym state ∙ e)
 
   pub told-absent : seen_state (state_at end.s own.core) ≡ Absent → read_told ≡ Plain NoSocket
   told-absent seen = told-is NoEnd (seen-absent (state_at end.s own.core) seen)
 
   pub told-waits : (seen_state (state_at end.s own.core) ≡ Absent → ⊥) → (seen_state (state_at end.s own.core) ≡ Up → ⊥) → (seen_state (state_at end.s own.core) ≡ FellBack → ⊥) → read_told ≡ Plain NotYet
   told-waits a u f =
-      let i = is-end at.setup.now one at.payload.now Past at.heard hosts.played end.side end.s in
+      let i = is-end setup one payload past heard hosts.played end.side end.s in
       let st : EndState = state_at end.s own.core in
       let w = waits st a u f (ap (λ s. is_reset_state s) state ∙ i.reset) in
-      let t = w.told at.setup.now at.payload.now end Past in
+      let t = w.told setup payload end past in
       told-is st refl ∙ t.1 len
 
   -- an end that is neither up nor fallen back hands out nothing
@@ -166,12 +163,12 @@ module _ (at : Moment) (end : End) (len : ℕ) (own theirs : Host) (hosts : AreH
   told-fell seen =
       let t = hosts.theirs in
       let f = t.flows end.s socket in
-      fallen-call-told at.setup.now one at.payload.now Past at.heard hosts.played end (Reads len) (fallen-is HasFallen (seen-fallen (state_at end.s own.core) seen))
+      fallen-call-told setup one payload past heard hosts.played end (Reads len) (fallen-is HasFallen (seen-fallen (state_at end.s own.core) seen))
       ∙ ap (λ (d : Direction). fallen_read false d.held len Open) (sym f.held)
 
   -- an established end
   module _ (seen : seen_state (state_at end.s own.core) ≡ Up) where
-    pub up : is_up end.side end.s Past ≡ true
+    pub up : is_up end.side end.s past ≡ true
     up = up-is IsUp (seen-up (state_at end.s own.core) seen)
 
     pub told-up : read_told ≡ half_told Size (Reads len) here peer_out (cause_of here.phase)
@@ -179,23 +176,23 @@ module _ (at : Moment) (end : End) (len : ℕ) (own theirs : Host) (hosts : AreH
 
     pub is-open : here.phase ≡ Open
     is-open =
-        let pipe_is = has-pipe at.setup.now at.payload.now end.s Past at.heard hosts.played (shaken at.setup.now one at.payload.now Past at.heard hosts.played) in
+        let pipe_is = has-pipe setup payload end.s past heard hosts.played (shaken setup one payload past heard hosts.played) in
         let open_end = pipe_is.open_end end.side in
         open_end.phase
 
     abbrev Peer : Half
-    Peer = half (other end.side) (pipe_of at.setup.now at.payload.now (group_on end.s Past) end.s Past)
+    Peer = half (other end.side) (pipe_of setup payload (group_on end.s past) end.s past)
 
     counted : IsCounted Size Peer here
     counted =
-        let pipe_is = has-pipe at.setup.now at.payload.now end.s Past at.heard hosts.played (shaken at.setup.now one at.payload.now Past at.heard hosts.played) in
+        let pipe_is = has-pipe setup payload end.s past heard hosts.played (shaken setup one payload past heard hosts.played) in
         let can = pipe_is.can_be in
-        subst (λ (y : Side). IsCounted Size Peer (half y (pipe_of at.setup.now at.payload.now (group_on end.s Past) end.s Past))) (sym (twice end.side))
-        (is-counted (terms_of at.setup.now) (other end.side) (part at.payload.now (group_on end.s Past) end.s Past) can.feasible)
+        subst (λ (y : Side). IsCounted Size Peer (half y (pipe_of setup payload (group_on end.s past) end.s past))) (sym (twice end.side))
+        (is-counted (terms_of setup) (other end.side) (part payload (group_on end.s past) end.s past) can.feasible)
 
     read-told : here.rd ≤ here.taken.told
     read-told =
-        let pipe_is = has-pipe at.setup.now at.payload.now end.s Past at.heard hosts.played (shaken at.setup.now one at.payload.now Past at.heard hosts.played) in
+        let pipe_is = has-pipe setup payload end.s past heard hosts.played (shaken setup one payload past heard hosts.played) in
         let open_end = pipe_is.open_end end.side in
         let shot = open_end.taken in
         let c = counted in
@@ -218,19 +215,19 @@ module _ (at : Moment) (end : End) (len : ℕ) (own theirs : Host) (hosts : AreH
     bytes-are = ap (λ t. told_bytes t) told-up ∙ told-bytes Size len here is-open peer_out
 
     abbrev Regions : List Buffer
-    Regions = buffer_of at.setup.now at.payload.now end.side Past ∷ []
+    Regions = buffer_of setup payload end.side 1 past ∷ []
 
     -- the plain end
-    pub half-is : half_at end.s (records_of at.setup.now at.payload.now end.side Past) ≡ here
+    pub half-is : half_at end.s (records_of setup payload end.side past) ≡ here
     half-is =
         let o = hosts.own in
-        let c = up-conn at.setup.now at.payload.now Regions end.side Past own.core o.side one at.heard hosts.played (has-lendings at.setup.now one at.payload.now Past at.heard hosts.played) end.s up in
-        ap (λ (k : Option (Connection Half)). unwrap_or (option_map (λ (c : Connection Half). c.end) k) (fresh at.setup.now.number)) c.plain_is
+        let c = up-conn setup payload Regions end.side past own.core o.side one heard hosts.played (has-lendings setup one payload past heard hosts.played) end.s up in
+        ap (λ (k : Option (Connection Half)). unwrap_or (option_map (λ (c : Connection Half). c.end) k) (fresh setup.number)) c.plain_is
 
     -- what an answer of its manager says
     pub answers-here : (n : ℕ) (answer : EndReply) → ((m : Manager Half) → StandsFor own.core m → Answers m.records.terms.size (Reads n) (half_at end.s m.records) answer) → Answers Size (Reads n) here answer
     answers-here n answer says = let o = hosts.own in
-        subst (λ (h : Half). Answers Size (Reads n) h answer) half-is (says (manager_of at.setup.now at.payload.now Regions end.side Past) o.side)
+        subst (λ (h : Half). Answers Size (Reads n) h answer) half-is (says (manager_of setup payload Regions end.side past) o.side)
 
     pub taken-count : (answer : EndReply) → Answers Size (Reads len) here answer → taken answer ≡ Count
     taken-count answer a = answer-count Size len here is-open answer a
@@ -240,21 +237,21 @@ module _ (at : Moment) (end : End) (len : ℕ) (own theirs : Host) (hosts : AreH
         → handed_out answer (route_at end.s own.core.records) own.core ++ drop (length (handed_out answer (route_at end.s own.core.records) own.core)) places ≡ take Count (drop here.rd peer_out)
     out-is places answer long a =
         let o = hosts.own in
-        let w = played at.setup.now one at.payload.now Past at.heard hosts.played in
-        let c = up-conn at.setup.now at.payload.now Regions end.side Past own.core o.side one at.heard hosts.played (has-lendings at.setup.now one at.payload.now Past at.heard hosts.played) end.s up in
-        let given = up-has-offers at.setup.now w.stage Past w.world end.side end.s up end.side in
+        let w = played setup one payload past heard hosts.played in
+        let c = up-conn setup payload Regions end.side past own.core o.side one heard hosts.played (has-lendings setup one payload past heard hosts.played) end.s up in
+        let given = up-has-offers setup w.stage past w.world end.side end.s up end.side in
         let offer-is : c.own.offer ≡ given.0 = own-offer c.own given.0 (sym c.own_is ∙ given.1) in
         let given_offer : Offer = given.0 in
-        let fact : IsOffer at.setup.now end.side given_offer.first c.own.offer = subst (λ (q : Offer). IsOffer at.setup.now end.side given_offer.first q) (sym offer-is) given.2 in
-        let rmb = is-rmb at.setup.now one at.payload.now Past at.heard hosts.played end.side in
-        let b : Buffer = buffer_of at.setup.now at.payload.now end.side Past in
-        let r : Route = route_of end.side end.s Past (lends_by end.s c.own.link c.own.offer) in
+        let fact : IsOffer setup end.side given_offer.first c.own.offer = subst (λ (q : Offer). IsOffer setup end.side given_offer.first q) (sym offer-is) given.2 in
+        let rmb = is-rmb setup one payload past heard hosts.played end.side in
+        let b : Buffer = buffer_of setup payload end.side 1 past in
+        let r : Route = route_of end.side end.s past (lends_by end.s c.own.link c.own.offer) in
         let element : IsElement Size (offered_place c.own.offer) b = record { whole = rmb.whole; size_is = rmb.size; rmb = fact.rmb ∙ sym rmb.rmb; low = fact.low; high = subst (λ n. c.own.offer.index ≤ n) (sym rmb.elements) fact.high } in
         let counts = counted in
         let q = counts.taken_fits in
         let l = counts.taken in
         let bytes : read_round c.own.offer.index (here.rd % Size) Count b ≡ take Count (drop here.rd peer_out) =
-        element-bytes Size (offered_place c.own.offer) b element here.rd Count here.taken.told peer_out (let t = read-told in omega (arith, t)) l (omega (arith, q)) (told-stand-on at.setup.now one at.payload.now Past at.heard hosts.played end.side end.s c.own c.own_is) in
+        element-bytes Size (offered_place c.own.offer) b element here.rd Count here.taken.told peer_out (let t = read-told in omega (arith, t)) l (omega (arith, q)) (told-stand-on setup one payload past heard hosts.played end.side end.s c.own c.own_is) in
         let all : taken answer ≡ Count = answer-count Size (length places) here is-open answer a ∙ (let e : min (length places) (unread here) ≡ Count = omega (arith, long) in e) in
         let k = c.kept in
         let st = k.stands in

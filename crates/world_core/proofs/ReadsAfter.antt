@@ -36,7 +36,7 @@ use Rattle.world_core.specs.Managers.{end_of}
 use Rattle.world_core.specs.Landed.{buffer_of}
 use Rattle.world_core.specs.Played.{IsOneLink}
 use Rattle.world_core.specs.Sending.{outflow_at, carried_from, goes_on_wire, MaySendAll}
-use Rattle.world_core.specs.Hosts.{AreHosts, IsPlayedBy, past_of, with_posts}
+use Rattle.world_core.specs.Hosts.{AreHosts, IsPlayedBy, past_of, with_posts, wire_at}
 use Rattle.world_core.specs.Calling.{MayCall, IsCalledAt, replied, taken, hands_over}
 use Rattle.world_core.specs.Streams.{gives_out}
 use Rattle.world_core.proofs.PlayedWorlds.{played}
@@ -141,23 +141,23 @@ module _ (at : Moment) (end : End) (len : ℕ) (own theirs : Host) (hosts : AreH
   pub read-absent : (posts : List Post) → posts ≡ [] → seen_state (state_at end.s own.core) ≡ Absent → IsPlayedBy at Event_is NoSocket posts end.side own theirs
   read-absent posts none seen =
       let is : state_at end.s own.core ≡ NoEnd = seen-absent (state_at end.s own.core) seen in
-      refused NoSocket posts none (told-absent at end len own theirs hosts socket seen) (up-is at end len own theirs hosts socket NoEnd is) (fallen-is at end len own theirs hosts socket NoEnd is)
+      refused NoSocket posts none (told-absent at.setup.now at.payload.now Before at.heard end len own theirs hosts socket seen) (up-is at.setup.now at.payload.now Before at.heard end len own theirs hosts socket NoEnd is) (fallen-is at.setup.now at.payload.now Before at.heard end len own theirs hosts socket NoEnd is)
 
   pub read-waits : (posts : List Post) → posts ≡ [] → (seen_state (state_at end.s own.core) ≡ Absent → ⊥) → (seen_state (state_at end.s own.core) ≡ Up → ⊥) → (seen_state (state_at end.s own.core) ≡ FellBack → ⊥)
       → IsPlayedBy at Event_is NotYet posts end.side own theirs
   read-waits posts none a u f =
       let i = is-end at.setup.now one at.payload.now Before at.heard hosts.played end.side end.s in
       let st : EndState = state_at end.s own.core in
-      let w = waits st a u f (ap (λ s. is_reset_state s) (state at end len own theirs hosts socket) ∙ i.reset) in
-      refused NotYet posts none (told-waits at end len own theirs hosts socket a u f) (up-is at end len own theirs hosts socket st refl ∙ w.up) (fallen-is at end len own theirs hosts socket st refl ∙ w.fallen)
+      let w = waits st a u f (ap (λ s. is_reset_state s) (state at.setup.now at.payload.now Before at.heard end len own theirs hosts socket) ∙ i.reset) in
+      refused NotYet posts none (told-waits at.setup.now at.payload.now Before at.heard end len own theirs hosts socket a u f) (up-is at.setup.now at.payload.now Before at.heard end len own theirs hosts socket st refl ∙ w.up) (fallen-is at.setup.now at.payload.now Before at.heard end len own theirs hosts socket st refl ∙ w.fallen)
 
   -- an established end
-  module _ (seen : seen_state (state_at end.s own.core) ≡ Up) (n : ℕ) (all : n ≡ Count at end len own theirs hosts socket seen) where
+  module _ (seen : seen_state (state_at end.s own.core) ≡ Up) (n : ℕ) (all : n ≡ Count at.setup.now at.payload.now Before at.heard end len own theirs hosts socket seen) where
     is : state_at end.s own.core ≡ IsUp
     is = seen-up (state_at end.s own.core) seen
 
     is-there : is_up end.side end.s Before ≡ true
-    is-there = up at end len own theirs hosts socket seen
+    is-there = up at.setup.now at.payload.now Before at.heard end len own theirs hosts socket seen
 
     abbrev Plain_is : Manager Half
     Plain_is = plain_at at.setup.now at.payload.now Before at.heard Event_is own theirs hosts few-past socket end.side
@@ -171,9 +171,9 @@ module _ (at : Moment) (end : End) (len : ℕ) (own theirs : Host) (hosts : AreH
     same-call =
         let o = hosts.own in
         let h : Half = end_of at.setup.now at.payload.now end.side end.s Before in
-        let c = up-conn at.setup.now at.payload.now (buffer_of at.setup.now at.payload.now end.side Before ∷ []) end.side Before own.core o.side one at.heard hosts.played
+        let c = up-conn at.setup.now at.payload.now (buffer_of at.setup.now at.payload.now end.side 1 Before ∷ []) end.side Before own.core o.side one at.heard hosts.played
         (has-lendings at.setup.now one at.payload.now Before at.heard hosts.played) end.s is-there in
-        let e : reads n h ≡ reads len h = ap (λ k. reads k h) all ∙ reads-count (element_size at.setup.now) len h (is-open at end len own theirs hosts socket seen) in
+        let e : reads n h ≡ reads len h = ap (λ k. reads k h) all ∙ reads-count (element_size at.setup.now) len h (is-open at.setup.now at.payload.now Before at.heard end len own theirs hosts socket seen) in
         let k : Connection Half = plain_conn at.setup.now at.payload.now end.side Before end.s (lends_by end.s c.own.link c.own.offer) in
         record {
           acts = acts-same end.s (call_of (Reads n) Plain_is) (call_of (Reads len) Plain_is) Plain_is k c.plain_is e;
@@ -189,7 +189,7 @@ module _ (at : Moment) (end : End) (len : ℕ) (own theirs : Host) (hosts : AreH
           sound = sound-here at.setup.now at.payload.now Before at.heard Event_is own theirs hosts few-past socket is-read 0 end.s (Reads len) (called is-there 0);
           plain = Plain_is;
           stands = o.side;
-          room = subst (λ (ps : List Post). length (filter goes_on_wire ps) ≤ room_of own.wire) (sym q.due)
+          room = subst (λ (ps : List Post). length (filter goes_on_wire ps) ≤ room_of (wire_at 1 own)) (sym q.due)
               (has-room at.setup.now at.payload.now Before at.heard Event_is own theirs hosts few-past socket is-read 0 end.s (Reads len) (called is-there 0));
           sent = λ v stands. subst (λ (ps : List Post). MaySendAll (length own.flows.items) v ps) (sym q.due)
               (may-go at.setup.now at.payload.now Before at.heard Event_is own theirs hosts few-past socket is-read 0 end.s (Reads len) (called is-there 0) v (subst (λ (k : Manager Half). StandsFor v k) q.acts stands));
@@ -206,26 +206,26 @@ module _ (at : Moment) (end : End) (len : ℕ) (own theirs : Host) (hosts : AreH
         let d : IsCalledAt end.s (Reads len) (length Before + 1) Plain_is own mine posts = record {
           side = subst (λ (k : Manager Half). StandsFor mine.core k) q.acts c.side;
           posts_are = c.posts_are ∙ q.due;
-          wire = c.wire ∙ (ap (λ (k : Manager Half). with_posts (carried_from k (length at.history.now + 1) 1 posts) own.wire) q.acts
-              ∙ ap (λ i. with_posts (carried_from (acts_at end.s (call_of (Reads len) Plain_is) Plain_is) (i + 1) 1 posts) own.wire) (sym (length-reverse at.history.now)));
+          wire = c.wire ∙ (ap (λ (k : Manager Half). with_posts (carried_from k (length at.history.now + 1) 1 posts) (wire_at 1 own)) q.acts
+              ∙ ap (λ i. with_posts (carried_from (acts_at end.s (call_of (Reads len) Plain_is) Plain_is) (i + 1) 1 posts) (wire_at 1 own)) (sym (length-reverse at.history.now)));
           flows = c.flows;
         } in
-        let now-called = called is-there 0 (buffer_of at.setup.now at.payload.now end.side Before ∷ []) in
-        let a = answers-here at end len own theirs hosts socket seen len answer says in
-        let rd : ℕ = (here at end len own theirs hosts socket).rd in
-        let out : List ℕ = peer_out at end len own theirs hosts socket in
-        let many : rd + taken answer ≤ length out = subst (λ k. rd + k ≤ length out) (sym (taken-count at end len own theirs hosts socket seen answer a)) (fits at end len own theirs hosts socket seen) in
+        let now-called = called is-there 0 (buffer_of at.setup.now at.payload.now end.side 1 Before ∷ []) in
+        let a = answers-here at.setup.now at.payload.now Before at.heard end len own theirs hosts socket seen len answer says in
+        let rd : ℕ = (here at.setup.now at.payload.now Before at.heard end len own theirs hosts socket).rd in
+        let out : List ℕ = peer_out at.setup.now at.payload.now Before at.heard end len own theirs hosts socket in
+        let many : rd + taken answer ≤ length out = subst (λ k. rd + k ≤ length out) (sym (taken-count at.setup.now at.payload.now Before at.heard end len own theirs hosts socket seen answer a)) (fits at.setup.now at.payload.now Before at.heard end len own theirs hosts socket seen) in
         record {
-          reply_is = ap (λ k. replied answer k) was ∙ (answer-replied answer at.heard rd out many ∙ ap (λ t. reply_of at.heard t) (a.told out ∙ sym (told-up at end len own theirs hosts socket seen)));
+          reply_is = ap (λ k. replied answer k) was ∙ (answer-replied answer at.heard rd out many ∙ ap (λ t. reply_of at.heard t) (a.told out ∙ sym (told-up at.setup.now at.payload.now Before at.heard end len own theirs hosts socket seen)));
           posts_are = d.posts_are ∙ sym now-called.posts;
           after = λ actor. called-after at.setup.now at.payload.now Before at.heard Event_is own theirs hosts few-past socket is-read actor
-              (writes-nothing actor) (λ s. refl) (λ s. let now : Entry = E actor in unfallen-reads (other end.side) s end len now.reply Before (fallen-is at end len own theirs hosts socket IsUp is))
+              (writes-nothing actor) (λ s. refl) (λ s. let now : Entry = E actor in unfallen-reads (other end.side) s end len now.reply Before (fallen-is at.setup.now at.payload.now Before at.heard end len own theirs hosts socket IsUp is))
               end.s (Reads len) (called is-there actor) mine posts d;
         }
 
   -- an end that has fallen back
   pub read-fell : (result : Reply) (before : ℕ) (peers : Host) (posts : List Post) → posts ≡ [] → seen_state (state_at end.s own.core) ≡ FellBack → before ≡ at.heard
-      → peers.core ≡ theirs.core → peers.wire ≡ theirs.wire
+      → peers.core ≡ theirs.core → (wire_at 1 peers) ≡ (wire_at 1 theirs)
       → result ≡ reply_of before (fallen_read false (outflow_at end.s theirs.flows.items).bytes.held len Open)
       → peers.flows.items ≡ hands_over end.s (fallen_read false (outflow_at end.s theirs.flows.items).bytes.held len Open) theirs.flows.items
       → IsPlayedBy at Event_is result posts end.side own peers
@@ -233,10 +233,10 @@ module _ (at : Moment) (end : End) (len : ℕ) (own theirs : Host) (hosts : AreH
       let o = hosts.own in
       let t = hosts.theirs in
       let is : state_at end.s own.core ≡ HasFallen = seen-fallen (state_at end.s own.core) seen in
-      let down : is_up end.side end.s Before ≡ false = up-is at end len own theirs hosts socket HasFallen is in
-      let fell : is_fallen end.side end.s Before ≡ true = fallen-is at end len own theirs hosts socket HasFallen is in
+      let down : is_up end.side end.s Before ≡ false = up-is at.setup.now at.payload.now Before at.heard end len own theirs hosts socket HasFallen is in
+      let fell : is_fallen end.side end.s Before ≡ true = fallen-is at.setup.now at.payload.now Before at.heard end len own theirs hosts socket HasFallen is in
       let bytes : List ℕ = (outflow_at end.s theirs.flows.items).bytes.held in
-      let told-now : told at.setup.now at.payload.now Before Event_is ≡ fallen_read false bytes len Open = told-fell at end len own theirs hosts socket seen in
+      let told-now : told at.setup.now at.payload.now Before Event_is ≡ fallen_read false bytes len Open = told-fell at.setup.now at.payload.now Before at.heard end len own theirs hosts socket seen in
       let n = nothing down 0 [] in
       record {
         reply_is = says ∙ (ap (λ k. reply_of k (fallen_read false bytes len Open)) was ∙ ap (λ t. reply_of at.heard t) (sym told-now));

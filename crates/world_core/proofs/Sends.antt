@@ -1,6 +1,6 @@
 -- A host sends the posts of an entry one after another.
 -- A reader learns here that what was sent so far, and what is left, make all posts of the entry.
-use Rattle.std.proofs.Common.{◌≡◌, ◌∙◌, ℕ, ◌+◌, ◌-◌, ◌<◌, ◌≤◌, Bool, true, false, if◌then◌else◌, List, [], ◌∷◌, length, filter, Option, Some, None, IsSome, option_map, unwrap_or, refl, sym, ap, subst, append_assoc, arith, drop, get_or}
+use Rattle.std.proofs.Common.{◌≡◌, ◌∙◌, ℕ, ◌+◌, ◌-◌, ◌<◌, ◌≤◌, Bool, true, false, if◌then◌else◌, List, [], ◌∷◌, length, filter, Option, Some, None, IsSome, option_map, unwrap_or, refl, sym, ap, subst, append_assoc, length-append, arith, drop, get_or, slice_set, slice_index_or, suc, zero}
 use Rattle.std.proofs.lemmas.List.{length-set, drop_more}
 use Rattle.std.proofs.lemmas.Bool.{false≢true}
 use Rattle.smc_num.specs.declared.Side.{Side}
@@ -13,13 +13,13 @@ use Rattle.pipe_model.specs.declared.snapshot.Snapshot.{Snapshot}
 use Rattle.pipe_model.specs.Ends.{Half}
 use Rattle.conn_end.specs.Kept.{Kept}
 use Rattle.rc_link.specs.declared.Carried.{Carried}
-use Rattle.rc_link.specs.Wire.{Queues, room_of, with_post}
+use Rattle.rc_link.specs.Wire.{Queues, empty, room_of, with_post}
 use Rattle.side_core.specs.Records.{aimer, half_at}
 use Rattle.side_core.specs.Manager.{Manager, StandsFor}
 use Rattle.side_core.proofs.Allowed.{aimers_same}
 use Rattle.world_core.specs.declared.host.Outflow.{Outflow}
 use Rattle.world_core.specs.Hosts.{with_posts}
-use Rattle.world_core.specs.Sending.{no_snapshot, plain_of, goes_on_wire, carried_from, posts_one, puts, puts_one, puts_all, outflow_at, MaySend, MaySendAll}
+use Rattle.world_core.specs.Sending.{no_snapshot, plain_of, goes_on_wire, carried_from, posts_one, puts, puts_one, puts_all, outflow_at, wire_in, MaySend, MaySendAll}
 
 -- the snapshot beside a CDC message whose token names an end
 pub plain_found : (core : Manager Kept) (m : Manager Half) (token : ℕ) (plain : Snapshot) → StandsFor core m → IsSome (aimer token core.records)
@@ -32,14 +32,41 @@ plain_found core m token plain stands some is = by (aimer token core.records) re
     by (Some s) e has =
         is s e ∙ ap (λ (o : Option ℕ). unwrap_or (option_map (λ t. (half_at t m.records).last) o) no_snapshot) (sym e ∙ aimers_same token core.records m.records stands.works.records)
 
--- so a CDC message goes out with it
-pub cdc_posted : (core : Manager Kept) (m : Manager Half) (sockets : ℕ) (at : PostRef) (w : Queues) (post : Post) (from : Side) (link : LinkId) (message : CdcMessage) (plain : Snapshot)
-    → post ≡ Cdc from link message → MaySend sockets core post → StandsFor core m
-    → ((s : ℕ) → aimer message.token core.records ≡ Some s → plain ≡ (half_at s m.records).last)
-    → with_post (record { at = at; post = post; plain = plain }) w ≡ posts_one m at post w
-cdc_posted core m sockets at w post from link message plain is may stands last =
-    subst (λ p. with_post (record { at = at; post = p; plain = plain }) w ≡ posts_one m at p w) (sym is)
-    (ap (λ s. with_post (record { at = at; post = Cdc from link message; plain = s }) w) (plain_found core m message.token plain stands (subst (MaySend sockets core) is may) last))
+-- a wire on which a post goes is there
+pub is-there : (ws : List Queues) (i : ℕ) → 0 < room_of (slice_index_or ws i (empty 0 false)) → i < length ws
+is-there [] i room = absurd (omega (arith, room))
+is-there (w ∷ ws) zero room = omega arith
+is-there (w ∷ ws) (suc i) room = let l = is-there ws i room in omega (arith, l)
+
+-- the wires after a post on the one slot
+pub carried-on : (slot : ℕ) (ws now : List Queues) (w : Queues) → slot ≡ 1 → 0 < room_of (wire_in slot ws) → now ≡ slice_set ws (slot - 1) w → wire_in 1 now ≡ w
+carried-on slot ws now w one room is =
+    ap (λ (vs : List Queues). wire_in 1 vs) (is ∙ ap (λ k. slice_set ws (k - 1) w) one) ∙ by ws (is-there ws 0 (subst (λ k. 0 < room_of (wire_in k ws)) one room))
+  where
+    by : (vs : List Queues) → 0 < length vs → slice_index_or (slice_set vs 0 w) 0 (empty 0 false) ≡ w
+    by [] few = absurd (omega (arith, few))
+    by (v ∷ vs) few = refl
+
+room_left : (c : Carried) (w : Queues) → room_of (with_post c w) ≡ room_of w - 1
+room_left c w = let l = length-append w.waiting (c ∷ []) in omega (arith, l)
+
+-- a post goes on the wire of the one slot with the plain snapshot that stands beside it
+module _ (at : PostRef) (ws now : List Queues) (post : Post) (slot : ℕ) (plain : Snapshot) (one : slot ≡ 1) (room : 0 < room_of (wire_in slot ws)) (goes : goes_on_wire post ≡ true)
+    (is : now ≡ slice_set ws (slot - 1) (with_post (record { at = at; post = post; plain = plain }) (wire_in slot ws))) where
+  abbrev Item : Carried
+  Item = record { at = at; post = post; plain = plain }
+
+  first : wire_in 1 now ≡ with_post (record { at = at; post = post; plain = plain }) (wire_in 1 ws)
+  first = carried-on slot ws now (with_post Item (wire_in slot ws)) one room is ∙ ap (λ k. with_post Item (wire_in k ws)) one
+
+  pub goes_out : (m : Manager Half) → plain ≡ plain_of m post → wire_in 1 now ≡ posts_one m at post (wire_in 1 ws)
+  goes_out m beside =
+      first
+      ∙ (ap (λ s. with_post (record { at = at; post = post; plain = s }) (wire_in 1 ws)) beside
+      ∙ ap (λ b. if b then with_post (record { at = at; post = post; plain = plain_of m post }) (wire_in 1 ws) else wire_in 1 ws) (sym goes))
+
+  pub leaves_room : room_of (wire_in 1 now) ≡ room_of (wire_in 1 ws) - (if goes_on_wire post then 1 else 0)
+  leaves_room = ap (λ (w : Queues). room_of w) first ∙ (room_left Item (wire_in 1 ws) ∙ ap (λ b. room_of (wire_in 1 ws) - (if b then 1 else 0)) (sym goes))
 
 -- a place with these numbers
 pub place_is : (at : PostRef) (entry number : ℕ) → at.entry ≡ entry → at.post ≡ number → at ≡ record { entry = entry; post = number }

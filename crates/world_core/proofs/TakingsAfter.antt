@@ -1,12 +1,12 @@
 -- What the taking of a CLC message makes of both hosts: nothing where none is due or it is held; else the taker has sent what its manager
 -- posts, and the message has left the stream of its sender.
-use Rattle.std.proofs.Common.{◌≡◌, ◌∙◌, ℕ, ◌+◌, ◌<◌, ◌≤◌, ◌^◌, ◌&&◌, ◌==◌, not, Bool, true, false, if◌then◌else◌, List, [], ◌∷◌, ◌++◌, length, filter, refl, ap, sym, subst, arith, inl, inr}
+use Rattle.std.proofs.Common.{◌≡◌, ◌∙◌, ℕ, ◌+◌, ◌<◌, ◌≤◌, ◌^◌, ◌&&◌, ◌==◌, not, Bool, true, false, if◌then◌else◌, List, [], ◌∷◌, ◌++◌, length, filter, refl, ap, sym, subst, arith, inl, inr, map}
 use Rattle.std.specs.Prelude.{Option, Some, None, ◌⊎◌, option_map, unwrap_or, IfSome}
 use Rattle.std.proofs.lemmas.List.{length-set}
 use Rattle.smc_num.specs.declared.Side.{Side}
 use Rattle.smc_num.specs.declared.Side.TheVariants.{A, B}
 use Rattle.smc_num.specs.declared.LinkId.{LinkId}
-use Rattle.smc_num.specs.Names.{other, same_side, no_link, head}
+use Rattle.smc_num.specs.Names.{other, same_side, no_link, head, up_to}
 use Rattle.clc_wire.specs.declared.message.ClcMessage.{ClcMessage}
 use Rattle.clc_wire.specs.declared.message.ClcMessage.TheVariants.{Proposal as ProposalMessage, Accept as AcceptMessage, Confirm as ConfirmMessage, Decline as DeclineMessage}
 use Rattle.rmb_region.specs.Regions.{Buffer}
@@ -23,6 +23,7 @@ use Rattle.pipe_model.specs.declared.verdict.Lacks.{Lacks}
 use Rattle.pipe_model.specs.declared.post.Post.{Post}
 use Rattle.pipe_model.specs.History.{offered, next_number}
 use Rattle.pipe_model.specs.Ends.{Half}
+use Rattle.pipe_model.specs.Fabric.{path_up}
 use Rattle.pipe_model.specs.Connections.{EndState, NoEnd, WaitsProposal, WaitsAnswer, WaitsConfirm, WaitsLink, IsUp, HasFallen, WasReset, end_state}
 use Rattle.pipe_model.specs.Fallback.{untaken, written, takes_message as takes_it}
 use Rattle.pipe_model.specs.Replies.{expects, step_told, told}
@@ -48,7 +49,7 @@ use Rattle.world_core.specs.WireSteps.{landing_now}
 use Rattle.world_core.specs.Sending.{carried_from, goes_on_wire, moved, outflow_at, puts_all, takes_next, MaySendAll}
 use Rattle.world_core.specs.Handing.{due_of, due_on, hands_over, link_made_by, makes_at, MayMake, is_taken_on, is_taken_by}
 use Rattle.world_core.specs.Steps.{entry_of, does_something}
-use Rattle.world_core.specs.Hosts.{AreHostsAfter, IsHostAfter, IsNext, IsStreamAfter, with_posts}
+use Rattle.world_core.specs.Hosts.{AreHostsAfter, IsHostAfter, IsNext, IsStreamAfter, with_posts, wire_at, paths_after}
 use Rattle.world_core.proofs.QuietEvents.{entry-of}
 use Rattle.world_core.proofs.SoundEnds.{sound-at}
 use Rattle.world_core.proofs.EndRecords.{state-is}
@@ -57,7 +58,7 @@ use Rattle.world_core.proofs.TakenAlone.{paths_of}
 use Rattle.world_core.proofs.HostsOn.{PlaysBy, own-sent, own-kept, theirs-then, may-go}
 use Rattle.world_core.proofs.StreamsAfter.{Flowing, their-flows, their-taken}
 use Rattle.world_core.proofs.ClcTaken.{IsTaken, link_with, link_of, held}
-use Rattle.world_core.proofs.TakenMessagesAll.{paths-up, taken, idle}
+use Rattle.world_core.proofs.TakenMessagesAll.{taken, idle}
 use Rattle.world_core.proofs.MayTakes.{MayMake as MayMakeAt, may-take, can-make, told-kept, would-take, would-idle}
 use Rattle.world_core.proofs.Plain.{and-false, twice}
 
@@ -136,9 +137,10 @@ may-make : (r : Reply) (link : Option LinkId) (d : Desk) → (r ≡ Sent Confirm
 may-make (Sent ConfirmSent) link d is = let f = is refl in subst (λ (o : Option LinkId). MayMake o d) (sym f.0) f.1
 may-make _ link d is = tt
 
-module _ (setup : Setup) (payload : List ℕ) (past : List Entry) (heard s : ℕ) (dir : Side) (own theirs : Host) (before : AreHostsAfter setup payload past heard (other dir) own theirs) (known : s < setup.sockets) where
+module _ (setup : Setup) (payload : List ℕ) (past : List Entry) (heard s : ℕ) (dir : Side) (own theirs : Host) (before : AreHostsAfter setup payload past heard (other dir) own theirs) (known : s < setup.sockets)
+    (paths : List Bool) (are-paths : paths ≡ paths_after setup past) where
   pub own-is : state_at s own.core ≡ end_state (other dir) s past
-  own-is = let h = before.own in state-is setup payload (buffer_of setup payload (other dir) past ∷ []) (other dir) past own.core h.side s known
+  own-is = let h = before.own in state-is setup payload (buffer_of setup payload (other dir) 1 past ∷ []) (other dir) past own.core h.side s known
 
   pub socket-at-theirs : s < length theirs.flows.items
   socket-at-theirs = let h = before.theirs in subst (λ n. s < n) (sym h.sockets) known
@@ -183,29 +185,29 @@ module _ (setup : Setup) (payload : List ℕ) (past : List Entry) (heard s : ℕ
       let d = is-due u e in
       taken setup set.one payload regions past (heard + 0) s dir (entry_of setup payload past heard actor (Clc s dir)) refl (plays actor) d.waits u.message d.first
 
-  up-now : paths_of past ≡ true ∷ []
-  up-now = let set = before.set in paths-up setup set.one payload past heard before.played
+  up-now : paths_of past ≡ paths
+  up-now = let set = before.set in let one = set.one in sym (are-paths ∙ ap (λ n. map (λ k. path_up k past) (up_to n)) one.links)
 
   abbrev own-regions : List Buffer
-  own-regions = buffer_of setup payload (other dir) past ∷ []
+  own-regions = buffer_of setup payload (other dir) 1 past ∷ []
 
   abbrev own-manager : Manager Half
-  own-manager = manager_of setup payload (buffer_of setup payload (other dir) past ∷ []) (other dir) past
+  own-manager = manager_of setup payload (buffer_of setup payload (other dir) 1 past ∷ []) (other dir) past
 
-  own-stands : StandsFor own.core (manager_of setup payload (buffer_of setup payload (other dir) past ∷ []) (other dir) past)
+  own-stands : StandsFor own.core (manager_of setup payload (buffer_of setup payload (other dir) 1 past ∷ []) (other dir) past)
   own-stands = let h = before.own in h.side
 
   -- the reply is what the manager is told
-  told-alike : (m : ClcMessage) → taking_told s m (true ∷ []) own.core ≡ taking_told s m (paths_of past) own-manager
+  told-alike : (m : ClcMessage) → taking_told s m paths own.core ≡ taking_told s m (paths_of past) own-manager
   told-alike m =
-      told-kept s m (true ∷ []) own.core own-manager own-stands
+      told-kept s m paths own.core own-manager own-stands
       ∙ ap (λ paths. taking_told s m paths own-manager) (sym up-now)
 
-  reply-now : (u : Untaken) → due_on s own.core theirs.flows.items ≡ Some u → taking_told s u.message (true ∷ []) own.core ≡ reply_of heard (told setup payload past (Clc s dir))
+  reply-now : (u : Untaken) → due_on s own.core theirs.flows.items ≡ Some u → taking_told s u.message paths own.core ≡ reply_of heard (told setup payload past (Clc s dir))
   reply-now u e = let t = given-by own-regions 0 u e in told-alike u.message ∙ sym t.reply
 
   -- whether it would be taken
-  would-now : (u : Untaken) → due_on s own.core theirs.flows.items ≡ Some u → not (is_wait (verdict_at s u.message (true ∷ []) own.core)) ≡ does_something (told setup payload past (Clc s dir))
+  would-now : (u : Untaken) → due_on s own.core theirs.flows.items ≡ Some u → not (is_wait (verdict_at s u.message paths own.core)) ≡ does_something (told setup payload past (Clc s dir))
   would-now u e =
       let set = before.set in
       let d = is-due u e in
@@ -215,10 +217,10 @@ module _ (setup : Setup) (payload : List ℕ) (past : List Entry) (heard s : ℕ
   would-not : due_on s own.core theirs.flows.items ≡ None → false ≡ does_something (told setup payload past (Clc s dir))
   would-not e = let set = before.set in sym (would-idle setup set.one payload own-regions past heard before.played s known dir (none-due e))
 
-  pub would-be-taken : is_taken_on s own.core theirs.flows.items ≡ does_something (told setup payload past (Clc s dir))
+  pub would-be-taken : is_taken_on s paths own.core theirs.flows.items ≡ does_something (told setup payload past (Clc s dir))
   would-be-taken = by (due_on s own.core theirs.flows.items) refl
     where
-      by : (o : Option Untaken) → due_on s own.core theirs.flows.items ≡ o → is_taken_by s own.core o ≡ does_something (told setup payload past (Clc s dir))
+      by : (o : Option Untaken) → due_on s own.core theirs.flows.items ≡ o → is_taken_by s paths own.core o ≡ does_something (told setup payload past (Clc s dir))
       by None e = would-not e
       by (Some u) e = would-now u e
 
@@ -226,11 +228,11 @@ module _ (setup : Setup) (payload : List ℕ) (past : List Entry) (heard s : ℕ
   link-alike u e = let d = is-due u e in ap (λ (o : Option LinkId). unwrap_or o no_link) d.link
 
   -- what a caller must see to
-  pub may-take-now : length past ≤ 2 ^ 18 → (u : Untaken) → due_on s own.core theirs.flows.items ≡ Some u → MayTake s u.message (unwrap_or u.link no_link) (true ∷ []) own.core
+  pub may-take-now : length past ≤ 2 ^ 18 → (u : Untaken) → due_on s own.core theirs.flows.items ≡ Some u → MayTake s u.message (unwrap_or u.link no_link) paths own.core
   may-take-now few u e =
       let set = before.set in
       let d = is-due u e in
-      subst (λ (l : LinkId). MayTake s u.message l (true ∷ []) own.core) (sym (link-alike u e)) (subst (λ paths. MayTake s u.message (link_of dir s past) paths own.core) up-now
+      subst (λ (l : LinkId). MayTake s u.message l paths own.core) (sym (link-alike u e)) (subst (λ paths. MayTake s u.message (link_of dir s past) paths own.core) up-now
       (may-take setup payload set past heard before.played few own-regions dir own.core own-stands s known d.waits u.message d.first))
 
   pub sound-now : length past ≤ 2 ^ 18 → IsSoundAt own.core.records.terms.size (conn_at s own.core.records)
@@ -262,7 +264,7 @@ module _ (setup : Setup) (payload : List ℕ) (past : List Entry) (heard s : ℕ
   module _ (few : length past < 2 ^ 18) where
     -- the peer where nothing changes at it
     theirs-kept : (actor : ℕ) → takes_it (reply_of heard (told setup payload past (Clc s dir))) ≡ false
-        → manager_of setup payload (buffer_of setup payload (other (other dir)) past ∷ []) (other (other dir)) (entry_of setup payload past heard actor (Clc s dir) ∷ past) ≡ manager_of setup payload (buffer_of setup payload (other (other dir)) past ∷ []) (other (other dir)) past
+        → manager_of setup payload (buffer_of setup payload (other (other dir)) 1 past ∷ []) (other (other dir)) (entry_of setup payload past heard actor (Clc s dir) ∷ past) ≡ manager_of setup payload (buffer_of setup payload (other (other dir)) 1 past ∷ []) (other (other dir)) past
         → IsHostAfter setup payload (other (other dir)) (entry_of setup payload past heard actor (Clc s dir) ∷ past) theirs
     theirs-kept actor none is =
         let h = before.theirs in
@@ -279,44 +281,44 @@ module _ (setup : Setup) (payload : List ℕ) (past : List Entry) (heard s : ℕ
           posts_are = let t = so [] 0 in none ∙ sym t.posts;
           after = λ actor.
               let of-own = so own-regions actor in
-              let of-theirs = so (buffer_of setup payload (other (other dir)) past ∷ []) actor in
+              let of-theirs = so (buffer_of setup payload (other (other dir)) 1 past ∷ []) actor in
               hosts-after setup payload before.set past heard before.played (Clc s dir) known actor few (other dir) own theirs
               (own-kept setup payload past heard (Clc s dir) own theirs before few known lands-none unmoved-by silent-by actor own (subst (λ (m : Manager Half). StandsFor own.core m) (sym (of-own.both (other dir))) h.side) of-own.posts refl refl)
               (theirs-kept actor (ap (λ r. takes_it r) of-own.reply) (of-theirs.both (other (other dir))));
         }
 
     -- a message is due, and the manager has taken it
-    module _ (u : Untaken) (due : due_on s own.core theirs.flows.items ≡ Some u) (r : Reply) (reply_is : r ≡ taking_told s u.message (true ∷ []) own.core) (v : Manager Kept)
-        (side : (m : Manager Half) → StandsFor own.core m → StandsFor v (takes_message s u.message (unwrap_or u.link no_link) (true ∷ []) m))
-        (first posts : List Post) (none : first ≡ []) (posts_are : (m : Manager Half) → StandsFor own.core m → posts ≡ first ++ taking_posts s u.message (unwrap_or u.link no_link) (true ∷ []) m) where
+    module _ (u : Untaken) (due : due_on s own.core theirs.flows.items ≡ Some u) (r : Reply) (reply_is : r ≡ taking_told s u.message paths own.core) (v : Manager Kept)
+        (side : (m : Manager Half) → StandsFor own.core m → StandsFor v (takes_message s u.message (unwrap_or u.link no_link) paths m))
+        (first posts : List Post) (none : first ≡ []) (posts_are : (m : Manager Half) → StandsFor own.core m → posts ≡ first ++ taking_posts s u.message (unwrap_or u.link no_link) paths m) where
       posts-so : posts ≡ posted setup payload past heard (Clc s dir)
       posts-so =
           let t = given-by own-regions 0 u due in
           posts_are own-manager own-stands
-          ∙ (ap (λ ps. ps ++ taking_posts s u.message (unwrap_or u.link no_link) (true ∷ []) own-manager) none
-          ∙ (ap (λ (l : LinkId). taking_posts s u.message l (true ∷ []) own-manager) (link-alike u due)
+          ∙ (ap (λ ps. ps ++ taking_posts s u.message (unwrap_or u.link no_link) paths own-manager) none
+          ∙ (ap (λ (l : LinkId). taking_posts s u.message l paths own-manager) (link-alike u due)
           ∙ (ap (λ paths. taking_posts s u.message (link_of dir s past) paths own-manager) (sym up-now) ∙ sym t.posts)))
 
       reply-so : r ≡ reply_of heard (told setup payload past (Clc s dir))
       reply-so = reply_is ∙ reply-now u due
 
-      stands-so : (actor : ℕ) → StandsFor v (manager_of setup payload (buffer_of setup payload (other dir) past ∷ []) (other dir) (entry_of setup payload past heard actor (Clc s dir) ∷ past))
+      stands-so : (actor : ℕ) → StandsFor v (manager_of setup payload (buffer_of setup payload (other dir) 1 past ∷ []) (other dir) (entry_of setup payload past heard actor (Clc s dir) ∷ past))
       stands-so actor =
           let t = given-by own-regions actor u due in
-          subst (λ (m : Manager Half). StandsFor v m) (ap (λ (l : LinkId). takes_message s u.message l (true ∷ []) own-manager) (link-alike u due) ∙ (ap (λ paths. takes_message s u.message (link_of dir s past) paths own-manager) (sym up-now) ∙ sym t.own))
+          subst (λ (m : Manager Half). StandsFor v m) (ap (λ (l : LinkId). takes_message s u.message l paths own-manager) (link-alike u due) ∙ (ap (λ paths. takes_message s u.message (link_of dir s past) paths own-manager) (sym up-now) ∙ sym t.own))
           (side own-manager own-stands)
 
-      pub may-send-now : MaySendAll (length own.flows.items) v posts × (length (filter goes_on_wire posts) ≤ room_of own.wire)
+      pub may-send-now : MaySendAll (length own.flows.items) v posts × (length (filter goes_on_wire posts) ≤ room_of (wire_at 1 own))
       may-send-now = may-go setup payload past heard (Clc s dir) own theirs before few known lands-none unmoved-by silent-by 0 v (stands-so 0) posts posts-so
 
-      theirs-so : (actor : ℕ) → manager_of setup payload (buffer_of setup payload (other (other dir)) past ∷ []) (other (other dir)) (entry_of setup payload past heard actor (Clc s dir) ∷ past)
-          ≡ link_with r (manager_of setup payload (buffer_of setup payload (other (other dir)) past ∷ []) (other (other dir)) past)
+      theirs-so : (actor : ℕ) → manager_of setup payload (buffer_of setup payload (other (other dir)) 1 past ∷ []) (other (other dir)) (entry_of setup payload past heard actor (Clc s dir) ∷ past)
+          ≡ link_with r (manager_of setup payload (buffer_of setup payload (other (other dir)) 1 past ∷ []) (other (other dir)) past)
       theirs-so actor =
-          let t = given-by (buffer_of setup payload (other (other dir)) past ∷ []) actor u due in
-          t.theirs ∙ ap (λ q. link_with q (manager_of setup payload (buffer_of setup payload (other (other dir)) past ∷ []) (other (other dir)) past)) (sym reply-so)
+          let t = given-by (buffer_of setup payload (other (other dir)) 1 past ∷ []) actor u due in
+          t.theirs ∙ ap (λ q. link_with q (manager_of setup payload (buffer_of setup payload (other (other dir)) 1 past ∷ []) (other (other dir)) past)) (sym reply-so)
 
       -- it is held
-      pub held-now : (hold : Hold) → r ≡ Held hold → (g : Host) → g.core ≡ v → g.wire ≡ own.wire → g.flows.items ≡ own.flows.items → PlaysBy setup payload past heard (Clc s dir) r posts (other dir) g theirs
+      pub held-now : (hold : Hold) → r ≡ Held hold → (g : Host) → g.core ≡ v → (wire_at 1 g) ≡ (wire_at 1 own) → g.flows.items ≡ own.flows.items → PlaysBy setup payload past heard (Clc s dir) r posts (other dir) g theirs
       held-now hold is g core wire flows =
           let waits : is_wait (verdict_at s u.message (paths_of past) own-manager) ≡ true =
           held-waits (named_group u.message) u.message (verdict_at s u.message (paths_of past) own-manager) hold (sym (told-alike u.message) ∙ (sym reply_is ∙ is)) in
@@ -327,8 +329,8 @@ module _ (setup : Setup) (payload : List ℕ) (past : List Entry) (heard s : ℕ
             posts_are = posts-so;
             after = λ actor.
                 hosts-after setup payload before.set past heard before.played (Clc s dir) known actor few (other dir) g theirs
-                (own-kept setup payload past heard (Clc s dir) own theirs before few known lands-none unmoved-by silent-by actor g (subst (λ w. StandsFor w (manager_of setup payload (buffer_of setup payload (other dir) past ∷ []) (other dir) (entry_of setup payload past heard actor (Clc s dir) ∷ past))) (sym core) (stands-so actor)) none-posted wire flows)
-                (theirs-kept actor (ap (λ q. takes_it q) (sym reply-so ∙ is)) (theirs-so actor ∙ ap (λ q. link_with q (manager_of setup payload (buffer_of setup payload (other (other dir)) past ∷ []) (other (other dir)) past)) is));
+                (own-kept setup payload past heard (Clc s dir) own theirs before few known lands-none unmoved-by silent-by actor g (subst (λ w. StandsFor w (manager_of setup payload (buffer_of setup payload (other dir) 1 past ∷ []) (other dir) (entry_of setup payload past heard actor (Clc s dir) ∷ past))) (sym core) (stands-so actor)) none-posted wire flows)
+                (theirs-kept actor (ap (λ q. takes_it q) (sym reply-so ∙ is)) (theirs-so actor ∙ ap (λ q. link_with q (manager_of setup payload (buffer_of setup payload (other (other dir)) 1 past ∷ []) (other (other dir)) past)) is));
           }
 
       -- where it confirms first contact, the message is about the link, which may be made at its sender
@@ -337,7 +339,7 @@ module _ (setup : Setup) (payload : List ℕ) (past : List Entry) (heard s : ℕ
           let set = before.set in
           let d = is-due u due in
           let h = before.theirs in
-          can-make setup set.one payload (buffer_of setup payload (other (other dir)) past ∷ []) past (heard + 0) s dir (entry_of setup payload past heard 0 (Clc s dir)) refl (plays 0) d.waits u.message d.first (sym reply-so ∙ is) theirs.core h.side
+          can-make setup set.one payload (buffer_of setup payload (other (other dir)) 1 past ∷ []) past (heard + 0) s dir (entry_of setup payload past heard 0 (Clc s dir)) refl (plays 0) d.waits u.message d.first (sym reply-so ∙ is) theirs.core h.side
 
       link-there : r ≡ Sent ConfirmSent → u.link ≡ Some the_link
       link-there is = let q = made-at is in named u.link (link-alike u due ∙ q.link)
@@ -346,11 +348,11 @@ module _ (setup : Setup) (payload : List ℕ) (past : List Entry) (heard s : ℕ
       pub may-make-now : MayMake (link_made_by r u.link) theirs.core.desk
       may-make-now = may-make r u.link theirs.core.desk (λ is. let q = made-at is in (link-there is, q.can))
 
-      taken-so : ((hold : Hold) → r ≡ Held hold → ⊥) → (verdict_at s u.message (true ∷ []) own.core ≡ AskKey → ⊥) → takes_it (reply_of heard (told setup payload past (Clc s dir))) ≡ true
+      taken-so : ((hold : Hold) → r ≡ Held hold → ⊥) → (verdict_at s u.message paths own.core ≡ AskKey → ⊥) → takes_it (reply_of heard (told setup payload past (Clc s dir))) ≡ true
       taken-so not_held not_asked =
           ap (λ q. takes_it q) (sym reply-so ∙ reply_is)
-          ∙ step-takes (named_group u.message) u.message (state_at s own.core) (lacks_of (true ∷ []) own.core.desk) (verdict_at s u.message (true ∷ []) own.core)
-          (tells (hand_at s own.core).raw (state_at s own.core) u.message (lacks_of (true ∷ []) own.core.desk)) not_asked (λ hold e. not_held hold (reply_is ∙ e))
+          ∙ step-takes (named_group u.message) u.message (state_at s own.core) (lacks_of paths own.core.desk) (verdict_at s u.message paths own.core)
+          (tells (hand_at s own.core).raw (state_at s own.core) u.message (lacks_of paths own.core.desk)) not_asked (λ hold e. not_held hold (reply_is ∙ e))
 
       over-flows : (actor : ℕ) → takes_it (reply_of heard (told setup payload past (Clc s dir))) ≡ true
           → Flowing payload setup.sockets (other (other dir)) (entry_of setup payload past heard actor (Clc s dir) ∷ past) (hands_over s u.message theirs.flows.items)
@@ -362,9 +364,9 @@ module _ (setup : Setup) (payload : List ℕ) (past : List Entry) (heard s : ℕ
           (their-taken setup set.one payload (entry_of setup payload past heard actor (Clc s dir)) past (heard + 0) (plays actor) dir s u.message refl takes d.first theirs.flows.items h.sockets h.flows)
 
       -- it is taken
-      pub taken-now : ((hold : Hold) → r ≡ Held hold → ⊥) → (verdict_at s u.message (true ∷ []) own.core ≡ AskKey → ⊥) → (number : ℕ) → number ≡ next_number past → (g l : Host) → g.core ≡ v
-          → ((m : Manager Half) → StandsFor v m → g.wire ≡ with_posts (carried_from m number 1 posts) own.wire) → g.flows.items ≡ puts_all posts own.flows.items
-          → ((m : Manager Half) → StandsFor theirs.core m → StandsFor l.core (with_desk (makes_at (link_made_by r u.link)) m)) → l.wire ≡ theirs.wire → l.flows.items ≡ hands_over s u.message theirs.flows.items
+      pub taken-now : ((hold : Hold) → r ≡ Held hold → ⊥) → (verdict_at s u.message paths own.core ≡ AskKey → ⊥) → (number : ℕ) → number ≡ next_number past → (g l : Host) → g.core ≡ v
+          → ((m : Manager Half) → StandsFor v m → (wire_at 1 g) ≡ with_posts (carried_from m number 1 posts) (wire_at 1 own)) → g.flows.items ≡ puts_all posts own.flows.items
+          → ((m : Manager Half) → StandsFor theirs.core m → StandsFor l.core (with_desk (makes_at (link_made_by r u.link)) m)) → (wire_at 1 l) ≡ (wire_at 1 theirs) → l.flows.items ≡ hands_over s u.message theirs.flows.items
           → PlaysBy setup payload past heard (Clc s dir) r posts (other dir) g l
       taken-now not_held not_asked number n g l core wire flows side_too wire_too flows_too =
           let takes = taken-so not_held not_asked in
@@ -374,10 +376,10 @@ module _ (setup : Setup) (payload : List ℕ) (past : List Entry) (heard s : ℕ
             posts_are = posts-so;
             after = λ actor.
                 hosts-after setup payload before.set past heard before.played (Clc s dir) known actor few (other dir) g l
-                (own-sent setup payload past heard (Clc s dir) own theirs before few known lands-none unmoved-by silent-by actor g (subst (λ w. StandsFor w (manager_of setup payload (buffer_of setup payload (other dir) past ∷ []) (other dir) (entry_of setup payload past heard actor (Clc s dir) ∷ past))) (sym core) (stands-so actor)) posts posts-so number n
+                (own-sent setup payload past heard (Clc s dir) own theirs before few known lands-none unmoved-by silent-by actor g (subst (λ w. StandsFor w (manager_of setup payload (buffer_of setup payload (other dir) 1 past ∷ []) (other dir) (entry_of setup payload past heard actor (Clc s dir) ∷ past))) (sym core) (stands-so actor)) posts posts-so number n
                 (λ m st. wire m (subst (λ w. StandsFor w m) core st)) flows)
                 (theirs-then setup payload past heard (Clc s dir) own theirs before few known lands-none unmoved-by silent-by actor l
-                (subst (λ (m : Manager Half). StandsFor l.core m) (made-alike r u.link (manager_of setup payload (buffer_of setup payload (other (other dir)) past ∷ []) (other (other dir)) past) link-there ∙ sym (theirs-so actor)) (side_too _ h.side))
+                (subst (λ (m : Manager Half). StandsFor l.core m) (made-alike r u.link (manager_of setup payload (buffer_of setup payload (other (other dir)) 1 past ∷ []) (other (other dir)) past) link-there ∙ sym (theirs-so actor)) (side_too _ h.side))
                 wire_too (ap length flows_too ∙ (length-set theirs.flows.items s (takes_next u.message (outflow_at s theirs.flows.items)) ∙ h.sockets))
                 (subst (λ fs. Flowing payload setup.sockets (other (other dir)) (entry_of setup payload past heard actor (Clc s dir) ∷ past) fs) (sym flows_too) (over-flows actor takes)));
           }

@@ -121,7 +121,7 @@ module _ (setup : Setup) (one : IsOneLink setup) (payload : List ℕ) (x : Side)
         }
 
   -- after every played history
-  pub all-reach : (past : List Entry) (n : ℕ) → IsPlayed setup payload past n → AllReach setup one payload x past × (IsRmb setup (other x) (peer_buffer setup payload x past) × AllStrange past)
+  pub all-reach : (past : List Entry) (n : ℕ) → IsPlayed setup payload past n → AllReach setup one payload x past × (IsRmb setup (other x) (peer_buffer setup payload x 1 past) × AllStrange past)
   all-reach [] n p = (
     λ s o f. absurd (true≢false (sym (ap (λ r. is_some r) f))),
     (record { whole = a_new_buffer_is_whole 1 (elements_of setup (other x)) Size (some-bytes setup); rmb = refl; size = refl; elements = refl }, λ token place is. (refl, refl)),
@@ -133,7 +133,7 @@ module _ (setup : Setup) (one : IsOneLink setup) (payload : List ℕ) (x : Side)
         (rmb-on setup one payload x e past n p a.0 b.0, λ token place is. strange-on e past n p b.1 token place (λ s. else-before (other x) s e past (go e past n p b.1) token (is s))),
       )
     where
-      by : (s : ℕ) (o : Offered) → offered (other x) s (e ∷ past) ≡ Some o → (q : Option Offered) → offered (other x) s past ≡ q → AllReach setup one payload x past → IsRmb setup (other x) (peer_buffer setup payload x past) → AllStrange past → Reaches setup payload x s o (e ∷ past)
+      by : (s : ℕ) (o : Offered) → offered (other x) s (e ∷ past) ≡ Some o → (q : Option Offered) → offered (other x) s past ≡ q → AllReach setup one payload x past → IsRmb setup (other x) (peer_buffer setup payload x 1 past) → AllStrange past → Reaches setup payload x s o (e ∷ past)
       by s o f None g all is strange = new-reaches e past n p strange s o f g
       by s o f (Some r) g all is strange =
           let kept = go e past n p strange in
@@ -143,22 +143,22 @@ module _ (setup : Setup) (one : IsOneLink setup) (payload : List ℕ) where
   pub bytes-reach : (past : List Entry) (n : ℕ) → IsPlayed setup payload past n → (x : Side) (s : ℕ) (o : Offered) → offered (other x) s past ≡ Some o → Reaches setup payload x s o past
   bytes-reach past n p x s o f = let a = all-reach setup one payload x past n p in a.0 s o f
 
-  pub is-rmb : (past : List Entry) (n : ℕ) → IsPlayed setup payload past n → (y : Side) → IsRmb setup y (buffer_of setup payload y past)
+  pub is-rmb : (past : List Entry) (n : ℕ) → IsPlayed setup payload past n → (y : Side) → IsRmb setup y (buffer_of setup payload y 1 past)
   is-rmb past n p A = let a = all-reach setup one payload B past n p in let b = a.1 in b.0
   is-rmb past n p B = let a = all-reach setup one payload A past n p in let b = a.1 in b.0
 
-  stands-by : (past : List Entry) (x : Side) (s : ℕ) (o : Offered) → Reaches setup payload x s o past → Stand (element_size setup) (offered_place o.offer) (half (other x) (pipe_of setup payload 1 s past)).rd (half (other x) (pipe_of setup payload 1 s past)).taken.told (half x (pipe_of setup payload 1 s past)).out (peer_buffer setup payload x past)
+  stands-by : (past : List Entry) (x : Side) (s : ℕ) (o : Offered) → Reaches setup payload x s o past → Stand (element_size setup) (offered_place o.offer) (half (other x) (pipe_of setup payload 1 s past)).rd (half (other x) (pipe_of setup payload 1 s past)).taken.told (half x (pipe_of setup payload 1 s past)).out (peer_buffer setup payload x 1 past)
   stands-by past x s o r i above below = let t = r.told in r.stand i above (omega (arith, below, t))
 
   -- what an end was told of and has not read stands in its element
   pub told-stand : (past : List Entry) (n : ℕ) → IsPlayed setup payload past n → (y : Side) (s : ℕ) (o : Offered) → offered y s past ≡ Some o →
-      Stand (element_size setup) (offered_place o.offer) (half y (pipe_of setup payload 1 s past)).rd (half y (pipe_of setup payload 1 s past)).taken.told (half (other y) (pipe_of setup payload 1 s past)).out (buffer_of setup payload y past)
+      Stand (element_size setup) (offered_place o.offer) (half y (pipe_of setup payload 1 s past)).rd (half y (pipe_of setup payload 1 s past)).taken.told (half (other y) (pipe_of setup payload 1 s past)).out (buffer_of setup payload y 1 past)
   told-stand past n p A s o f = stands-by past B s o (bytes-reach past n p B s o f)
   told-stand past n p B s o f = stands-by past A s o (bytes-reach past n p A s o f)
 
   -- the same by the socket's own group
   pub told-stand-on : (past : List Entry) (n : ℕ) → IsPlayed setup payload past n → (y : Side) (s : ℕ) (o : Offered) → offered y s past ≡ Some o →
-      Stand (element_size setup) (offered_place o.offer) (half y (pipe_of setup payload (group_on s past) s past)).rd (half y (pipe_of setup payload (group_on s past) s past)).taken.told (half (other y) (pipe_of setup payload (group_on s past) s past)).out (buffer_of setup payload y past)
+      Stand (element_size setup) (offered_place o.offer) (half y (pipe_of setup payload (group_on s past) s past)).rd (half y (pipe_of setup payload (group_on s past) s past)).taken.told (half (other y) (pipe_of setup payload (group_on s past) s past)).out (buffer_of setup payload y 1 past)
   told-stand-on past n p y s o f =
-      subst (λ g. Stand (element_size setup) (offered_place o.offer) (half y (pipe_of setup payload g s past)).rd (half y (pipe_of setup payload g s past)).taken.told (half (other y) (pipe_of setup payload g s past)).out (buffer_of setup payload y past))
+      subst (λ g. Stand (element_size setup) (offered_place o.offer) (half y (pipe_of setup payload g s past)).rd (half y (pipe_of setup payload g s past)).taken.told (half (other y) (pipe_of setup payload g s past)).out (buffer_of setup payload y 1 past))
       (sym (grouped setup past (has-offers setup one payload past n p) y s o f)) (told-stand past n p y s o f)

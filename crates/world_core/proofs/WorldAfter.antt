@@ -1,11 +1,14 @@
 -- A world goes on standing for its history as an entry is added.
-use Rattle.std.specs.Prelude.{◌≡◌, ◌≤◌, ◌<◌, ℕ, ◌+◌, ◌++◌, nat_le, nat_lt, Bool, true, false, if◌then◌else◌, List, [], ◌∷◌, length, reverse, Option, Some, None, option_to_list}
+use Rattle.std.specs.Prelude.{◌≡◌, ◌≤◌, ◌<◌, ℕ, ◌+◌, ◌++◌, nat_le, nat_lt, Bool, true, false, if◌then◌else◌, List, [], ◌∷◌, length, reverse, Option, Some, None, option_to_list, map}
 use Rattle.std.specs.List.{All}
 use Rattle.std.proofs.Common.{ap, refl, sym, subst, ◌∙◌, arith, length-append}
 use Rattle.std.proofs.lemmas.Bool.Decides.{nat_tests}
 use Rattle.std.proofs.lemmas.List.{reverse-append, length-reverse}
 use Rattle.std.proofs.lemmas.List.Elements.{All-append, All-nil, All-cons}
+use Rattle.smc_num.specs.declared.Side.{Side}
 use Rattle.smc_num.specs.declared.Side.TheVariants.{A}
+use Rattle.smc_num.specs.Names.{up_to}
+use Rattle.pipe_model.specs.Fabric.{path_up}
 use Rattle.pipe_model.specs.Calls.{Told, Plain, Hands}
 use Rattle.pipe_model.specs.Replies.{told}
 use Rattle.pipe_model.specs.Lawful.{reply_of, posted}
@@ -22,7 +25,8 @@ use Rattle.world_core.specs.Heard.{told_bytes, all_bytes}
 use Rattle.world_core.specs.Steps.{Seen, past, entry_of, refusal, reply_to, stepped, told_by, opened_socket, opening_order}
 use Rattle.world_core.specs.declared.moment.Moment.{Moment}
 use Rattle.pipe_model.specs.declared.post.Post.{Post}
-use Rattle.world_core.specs.Hosts.{AreHostsAfter, IsWorldAfter, IsPlayedBy, told_at}
+use Rattle.world_core.specs.Hosts.{AreHostsAfter, IsWorldAfter, IsPlayedBy, paths_after, told_at}
+use Rattle.world_core.proofs.TakenMessagesAll.{paths-up}
 
 both-false : (a b : Bool) (x y : StepFault) → (if a then Some x else (if b then Some y else None)) ≡ None → (a ≡ false) × (b ≡ false)
 both-false true b x y e = absurd (cc)
@@ -64,7 +68,14 @@ all-known setup payload [] n p = All-nil (λ x. x < setup.sockets)
 all-known setup payload (e ∷ es) n p =
     All-append (λ x. x < setup.sockets) (opening_order es) (option_to_list (opened_socket e.event e.reply)) (all-known setup payload es p.0 p.3) (known-opened setup (length payload) e.event e.reply (p.1).built)
 
-module _ (w : Seen) (a b : Host) (opened : List ℕ) (history_room heard_room opened_room : ℕ) (k : IsWorldAfter w a b opened history_room heard_room opened_room) where
+-- the paths are up after any played history
+pub up-after : (setup : Setup) (payload : List ℕ) (es : List Entry) (n : ℕ) (x : Side) (a b : Host) → AreHostsAfter setup payload es n x a b → paths_after setup es ≡ true ∷ []
+up-after setup payload es n x a b h =
+    let set = h.set in
+    let one = set.one in
+    ap (λ k. map (λ j. path_up j es) (up_to k)) one.links ∙ paths-up setup one payload es n h.played
+
+module _ (w : Seen) (a b : Host) (opened : List ℕ) (paths : List Bool) (history_room heard_room opened_room : ℕ) (k : IsWorldAfter w a b opened paths history_room heard_room opened_room) where
   -- the history grows at its front, the newest entry first
   pub past-after : (actor : ℕ) (event : Event) → past (stepped actor event w) ≡ entry_of w.setup w.payload (past w) (length w.heard) actor event ∷ past w
   past-after actor event = reverse-append w.history (entry_of w.setup w.payload (past w) (length w.heard) actor event ∷ [])
@@ -77,7 +88,7 @@ module _ (w : Seen) (a b : Host) (opened : List ℕ) (history_room heard_room op
   pub world-after : (actor : ℕ) (event : Event) → refusal w event ≡ None → (c d : Host) (history_now heard_now opened_now : ℕ)
       → AreHostsAfter w.setup w.payload (entry_of w.setup w.payload (past w) (length w.heard) actor event ∷ past w) (length w.heard + handed (told_by w event)) A c d
       → history_room ≤ history_now → heard_room ≤ heard_now → opened_room ≤ opened_now
-      → IsWorldAfter (stepped actor event w) c d (opened ++ option_to_list (opened_socket event (reply_to w event))) history_now heard_now opened_now
+      → IsWorldAfter (stepped actor event w) c d (opened ++ option_to_list (opened_socket event (reply_to w event))) paths history_now heard_now opened_now
   world-after actor event room c d history_now heard_now opened_now h hr br or =
       let t = told_by w event in
       let r = has_room w event room in
@@ -88,6 +99,8 @@ module _ (w : Seen) (a b : Host) (opened : List ℕ) (history_room heard_room op
             (subst (λ n. AreHostsAfter w.setup w.payload (entry_of w.setup w.payload (past w) (length w.heard) actor event ∷ past w) n A c d) (sym long) h);
         heard_is = ap (λ (bs : List ℕ). bs ++ told_bytes t) k.heard_is ∙ ap (λ (es : List Entry). all_bytes w.setup w.payload es) (sym p);
         order = ap (λ (os : List ℕ). os ++ option_to_list (opened_socket event (reply_to w event))) k.order ∙ ap (λ (es : List Entry). opening_order es) (sym p);
+        paths_are = k.paths_are ∙ (up-after w.setup w.payload (past w) (length w.heard) A a b k.hosts
+            ∙ (sym (up-after w.setup w.payload (entry_of w.setup w.payload (past w) (length w.heard) actor event ∷ past w) _ A c d h) ∙ ap (λ (es : List Entry). paths_after w.setup es) (sym p)));
         entries = let l = r.0 in omega (arith, entries, l);
         bytes = let l = r.1 in omega (arith, long, l);
         most_entries = k.most_entries;
@@ -133,12 +146,12 @@ entry-in w actor event reply posts c d p =
     ap (λ (ps : List Post). let e : Entry = record { actor = actor; event = event; reply = reply_to w event; posts = ps } in e) p.posts_are
 
 -- a world of these parts
-pub world-of-parts : (w : Seen) (history : List Entry) (heard : List ℕ) (new : Seen) (a b : Host) (opened other : List ℕ) (hr br or : ℕ) → history ≡ new.history → heard ≡ new.heard → other ≡ opened
+pub world-of-parts : (w : Seen) (history : List Entry) (heard : List ℕ) (new : Seen) (a b : Host) (opened other : List ℕ) (paths : List Bool) (hr br or : ℕ) → history ≡ new.history → heard ≡ new.heard → other ≡ opened
     → new.setup ≡ w.setup → new.payload ≡ w.payload → new.room ≡ w.room
-    → IsWorldAfter new a b opened hr br or → IsWorldAfter (record w { history = history; heard = heard }) a b other hr br or
-world-of-parts w history heard new a b opened other hr br or e f g s q r k =
-    subst (λ (os : List ℕ). IsWorldAfter (record w { history = history; heard = heard }) a b os hr br or) (sym g)
-    (subst (λ (v : Seen). IsWorldAfter v a b opened hr br or)
+    → IsWorldAfter new a b opened paths hr br or → IsWorldAfter (record w { history = history; heard = heard }) a b other paths hr br or
+world-of-parts w history heard new a b opened other paths hr br or e f g s q r k =
+    subst (λ (os : List ℕ). IsWorldAfter (record w { history = history; heard = heard }) a b os paths hr br or) (sym g)
+    (subst (λ (v : Seen). IsWorldAfter v a b opened paths hr br or)
     (ap (λ (x : List Entry). let v : Seen = record new { history = x } in v) (sym e) ∙ (ap (λ (x : List ℕ). let v : Seen = record new { history = history; heard = x } in v) (sym f)
     ∙ (ap (λ x. let v : Seen = record new { history = history; heard = heard; setup = x } in v) s ∙ (ap (λ (x : List ℕ). let v : Seen = record new { history = history; heard = heard; setup = w.setup; payload = x } in v) q
     ∙ ap (λ x. let v : Seen = record new { history = history; heard = heard; setup = w.setup; payload = w.payload; room = x } in v) r)))) k)

@@ -96,27 +96,27 @@ nothing-sent i ms m rest e f = none i (sym (ap (λ ks. head (drop i ks)) e) ∙ 
     none (suc j) g = true≢false (sym (ap (λ (q : Option Sent). is_some q) g))
 
 -- the buffer of the peer
-pub buffer-is : (setup : Setup) (payload : List ℕ) (x : Side) (past : List Entry) → buffer_of setup payload (other x) past ≡ peer_buffer setup payload x past
+pub buffer-is : (setup : Setup) (payload : List ℕ) (x : Side) (past : List Entry) → buffer_of setup payload (other x) 1 past ≡ peer_buffer setup payload x 1 past
 buffer-is setup payload A past = refl
 buffer-is setup payload B past = refl
 
 module _ (setup : Setup) (payload : List ℕ) (x : Side) (e : Entry) (past : List Entry) where
   -- nothing of the side lands
-  pub buffer-stays : landing_now the_link x e past ≡ 0 → buffer_of setup payload (other x) (e ∷ past) ≡ buffer_of setup payload (other x) past
+  pub buffer-stays : landing_now the_link x e past ≡ 0 → buffer_of setup payload (other x) 1 (e ∷ past) ≡ buffer_of setup payload (other x) 1 past
   buffer-stays l = buffer-is setup payload x (e ∷ past)
-      ∙ (ap (λ k. if k == 0 then peer_buffer setup payload x past else first_lands setup payload x past (waiting_posts x past) (peer_buffer setup payload x past)) l ∙ sym (buffer-is setup payload x past))
+      ∙ (ap (λ k. if k == 0 then peer_buffer setup payload x 1 past else first_lands setup payload x past (waiting_posts x past) (peer_buffer setup payload x 1 past)) l ∙ sym (buffer-is setup payload x past))
 
   -- its first post lands
-  buffer-first : landing_now the_link x e past ≡ 1 → (ps : List Post) → waiting_posts x past ≡ ps → buffer_of setup payload (other x) (e ∷ past) ≡ first_lands setup payload x past ps (buffer_of setup payload (other x) past)
+  buffer-first : landing_now the_link x e past ≡ 1 → (ps : List Post) → waiting_posts x past ≡ ps → buffer_of setup payload (other x) 1 (e ∷ past) ≡ first_lands setup payload x past ps (buffer_of setup payload (other x) 1 past)
   buffer-first l ps w = buffer-is setup payload x (e ∷ past)
-      ∙ (ap (λ k. if k == 0 then peer_buffer setup payload x past else first_lands setup payload x past (waiting_posts x past) (peer_buffer setup payload x past)) l
-      ∙ (ap (λ qs. first_lands setup payload x past qs (peer_buffer setup payload x past)) w ∙ ap (λ b. first_lands setup payload x past ps b) (sym (buffer-is setup payload x past))))
+      ∙ (ap (λ k. if k == 0 then peer_buffer setup payload x 1 past else first_lands setup payload x past (waiting_posts x past) (peer_buffer setup payload x 1 past)) l
+      ∙ (ap (λ qs. first_lands setup payload x past qs (peer_buffer setup payload x 1 past)) w ∙ ap (λ b. first_lands setup payload x past ps b) (sym (buffer-is setup payload x past))))
 
   -- which is a message
-  pub buffer-stays-cdc : landing_now the_link x e past ≡ 1 → (from : Side) (link : LinkId) (m : CdcMessage) (rest : List Post) → waiting_posts x past ≡ Cdc from link m ∷ rest → buffer_of setup payload (other x) (e ∷ past) ≡ buffer_of setup payload (other x) past
+  pub buffer-stays-cdc : landing_now the_link x e past ≡ 1 → (from : Side) (link : LinkId) (m : CdcMessage) (rest : List Post) → waiting_posts x past ≡ Cdc from link m ∷ rest → buffer_of setup payload (other x) 1 (e ∷ past) ≡ buffer_of setup payload (other x) 1 past
   buffer-stays-cdc l from link m rest w = buffer-first l (Cdc from link m ∷ rest) w
 
-  pub buffer-stays-llc : landing_now the_link x e past ≡ 1 → (from : Side) (link : LinkId) (m : LlcMessage) (rest : List Post) → waiting_posts x past ≡ Llc from link m ∷ rest → buffer_of setup payload (other x) (e ∷ past) ≡ buffer_of setup payload (other x) past
+  pub buffer-stays-llc : landing_now the_link x e past ≡ 1 → (from : Side) (link : LinkId) (m : LlcMessage) (rest : List Post) → waiting_posts x past ≡ Llc from link m ∷ rest → buffer_of setup payload (other x) 1 (e ∷ past) ≡ buffer_of setup payload (other x) 1 past
   buffer-stays-llc l from link m rest w = buffer-first l (Llc from link m ∷ rest) w
 
 -- the posts on a wire are those of the history
@@ -229,7 +229,7 @@ module _ (setup : Setup) (payload : List ℕ) (set : IsWorldSet setup payload) (
           absurd (own-next x Rest m own next (ap (λ ps. filter_map (cdc_under x m.token) ps) (sym w) ∙ none))
 
   module _ (lendings_are : HasLendings setup payload past) (regions : List Buffer)
-      (u : Manager Kept) (sends : StandsFor u (manager_of setup payload regions x past)) (v : Manager Kept) (takes : StandsFor v (manager_of setup payload (buffer_of setup payload (other x) past ∷ []) (other x) past)) where
+      (u : Manager Kept) (sends : StandsFor u (manager_of setup payload regions x past)) (v : Manager Kept) (takes : StandsFor v (manager_of setup payload (buffer_of setup payload (other x) 1 past ∷ []) (other x) past)) where
     -- the bytes of a write, from a place in the stream of its end
     abbrev bytes_from : ℕ → ℕ → ℕ → List ℕ
     bytes_from s at len = take len (drop at (half_of setup payload x s past).out)
@@ -245,9 +245,9 @@ module _ (setup : Setup) (payload : List ℕ) (set : IsWorldSet setup payload) (
       pub long : length (bytes_from s at len) ≡ len
       pub writes : MayWrite link key address len v
       pub writes_parts : (front back : List ℕ) → front ++ back ≡ bytes_from s at len → MayWrite link key address (length front + length back) v
-      pub bound : rmb_bound key link (manager_of setup payload (buffer_of setup payload (other x) past ∷ []) (other x) past).desk.keys ≡ Some 1
-      pub lands : (e : Entry) → landing_now the_link x e past ≡ 1 → bytes_land 1 address (bytes_from s at len) (manager_of setup payload (buffer_of setup payload (other x) past ∷ []) (other x) past)
-          ≡ manager_of setup payload (buffer_of setup payload (other x) (e ∷ past) ∷ []) (other x) past
+      pub bound : rmb_bound key link (manager_of setup payload (buffer_of setup payload (other x) 1 past ∷ []) (other x) past).desk.keys ≡ Some 1
+      pub lands : (e : Entry) → landing_now the_link x e past ≡ 1 → bytes_land 1 address (bytes_from s at len) (manager_of setup payload (buffer_of setup payload (other x) 1 past ∷ []) (other x) past)
+          ≡ manager_of setup payload (buffer_of setup payload (other x) 1 (e ∷ past) ∷ []) (other x) past
 
     writing-by : (c : Placed) (rest : List Placed) (from : Side) (link : LinkId) (key address len : ℕ) → unlanded the_link x past ≡ c ∷ rest → c.post ≡ Write from link key address len → Owned link key address len (map (λ (d : Placed). d.post) rest) → Writing link key address len (map (λ (d : Placed). d.post) rest)
     writing-by c rest from link key address len q e ow = record {
@@ -272,7 +272,7 @@ module _ (setup : Setup) (payload : List ℕ) (set : IsWorldSet setup payload) (
         Rest = map (λ (d : Placed). d.post) rest
 
         Buf : Buffer
-        Buf = buffer_of setup payload (other x) past
+        Buf = buffer_of setup payload (other x) 1 past
 
         conn : UpConn setup payload regions x past u sends set.one n p lendings_are ow.s
         conn = up-conn setup payload regions x past u sends set.one n p lendings_are ow.s ow.up
@@ -313,6 +313,12 @@ module _ (setup : Setup) (payload : List ℕ) (set : IsWorldSet setup payload) (
             let el = element-of setup set.one payload x past n p Buf rmb ow.s ow.o ow.offered_is in
             subst (λ a. IsInside a len Buf) (sym ow.address_is) (lies-inside Size (offered_place ow.o.offer) Buf ow.at len el ow.fits)
 
+        same-rmb : (offered_place ow.o.offer).rmb ≡ Buf.rmb
+        same-rmb =
+            let rmb : IsRmb setup (other x) Buf = is-rmb setup set.one payload past n p (other x) in
+            let el = element-of setup set.one payload x past n p Buf rmb ow.s ow.o ow.offered_is in
+            el.rmb
+
         bound : rmb_bound key link (keys_of (other x) past).keys ≡ Some 1
         bound = let w = played setup set.one payload past n p in let keys = offered-keys setup w.stage past w.world (other x) ow.s ow.o ow.offered_is in
             ap (λ k. rmb_bound k link (keys_of (other x) past).keys) ow.key_is ∙ (ap (λ l. rmb_bound (the_key (other x)).key l (keys_of (other x) past).keys) ow.on
@@ -332,11 +338,12 @@ module _ (setup : Setup) (payload : List ℕ) (set : IsWorldSet setup payload) (
             let stays = stays-lent setup set.one payload past n p (other x) ow.s ow.o.offer there (peer-not-fallen setup set.one payload past n p x ow.s ow.up) in
             ap (λ t. record_of setup payload (other x) t past) ow.token ∙ stays.1
 
-        lands-as : (d : Entry) → landing_now the_link x d past ≡ 1 → buffer_of setup payload (other x) (d ∷ past) ≡ lands address (bytes_from ow.s ow.at len) Buf
+        lands-as : (d : Entry) → landing_now the_link x d past ≡ 1 → buffer_of setup payload (other x) 1 (d ∷ past) ≡ lands address (bytes_from ow.s ow.at len) Buf
         lands-as d l =
             buffer-first setup payload x d past l (Write from link key address len ∷ Rest) (ap (λ cs. map (λ (d : Placed). d.post) cs) q ∙ ap (λ post. post ∷ Rest) e)
             ∙ (ap (λ (m : Option CdcMessage). written_for setup payload x past address len Rest (option_and_then (λ (m : CdcMessage). record_of setup payload (other x) m.token past) m) Buf) ow.next
-            ∙ (ap (λ (k : Option Lending). written_for setup payload x past address len Rest k Buf) lending ∙ ap (λ bs. lands address bs Buf) ow.bytes))
+            ∙ (ap (λ (k : Option Lending). written_for setup payload x past address len Rest k Buf) lending
+            ∙ (ap (λ b. if b then lands address (bytes_of (half x (pipe_of setup payload 1 ow.s past)) len Rest) Buf else Buf) (eq-eqb (offered_place ow.o.offer).rmb Buf.rmb same-rmb) ∙ ap (λ bs. lands address bs Buf) ow.bytes)))
 
     -- a write at the front of a wire
     pub writing : (w : Queues) → IsWireAfter setup payload x past w → (c : Carried) (rest : List Carried) (from : Side) (link : LinkId) (key address len : ℕ) → w.waiting ≡ c ∷ rest → c.post ≡ Write from link key address len

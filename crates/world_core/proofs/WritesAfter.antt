@@ -36,7 +36,7 @@ use Rattle.world_core.specs.Managers.{records_of, end_of}
 use Rattle.world_core.specs.Landed.{buffer_of}
 use Rattle.world_core.specs.Played.{IsBuilt}
 use Rattle.world_core.specs.Sending.{outflow_at}
-use Rattle.world_core.specs.Hosts.{AreHosts, IsPlayedBy, IsStreamAfter, past_of}
+use Rattle.world_core.specs.Hosts.{AreHosts, IsPlayedBy, IsStreamAfter, past_of, wire_at}
 use Rattle.world_core.specs.Calling.{MayCall, IsCalledAt}
 use Rattle.world_core.specs.Streams.{takes_in}
 use Rattle.world_core.proofs.PlayedWorlds.{played}
@@ -81,7 +81,7 @@ module _ (at : Moment) (end : End) (place len : ℕ) (own theirs : Host) (hosts 
   E actor = entry_by at.setup.now at.payload.now Past at.heard Told_by own theirs hosts few-past built actor
 
   state : state_at end.s own.core ≡ end_state end.side end.s Past
-  state = let o = hosts.own in state-is at.setup.now at.payload.now (buffer_of at.setup.now at.payload.now end.side Past ∷ []) end.side Past own.core o.side end.s socket
+  state = let o = hosts.own in state-is at.setup.now at.payload.now (buffer_of at.setup.now at.payload.now end.side 1 Past ∷ []) end.side Past own.core o.side end.s socket
 
   up-is : (st : EndState) → state_at end.s own.core ≡ st → is_up end.side end.s Past ≡ is_up_state st
   up-is st e =
@@ -156,7 +156,7 @@ module _ (at : Moment) (end : End) (place len : ℕ) (own theirs : Host) (hosts 
   half-is up regions =
       let o = hosts.own in
       let set = hosts.set in
-      let c = up-conn at.setup.now at.payload.now (buffer_of at.setup.now at.payload.now end.side Past ∷ []) end.side Past own.core o.side set.one at.heard hosts.played
+      let c = up-conn at.setup.now at.payload.now (buffer_of at.setup.now at.payload.now end.side 1 Past ∷ []) end.side Past own.core o.side set.one at.heard hosts.played
       (has-lendings at.setup.now set.one at.payload.now Past at.heard hosts.played) end.s up in
       ap (λ (k : Option (Connection Half)). unwrap_or (option_map (λ (c : Connection Half). c.end) k) (fresh at.setup.now.number)) c.plain_is
 
@@ -171,7 +171,7 @@ module _ (at : Moment) (end : End) (place len : ℕ) (own theirs : Host) (hosts 
       let m : Manager Half = plain_at at.setup.now at.payload.now Past at.heard Told_by own theirs hosts few-past built end.side in
       let h : Half = end_of at.setup.now at.payload.now end.side end.s Past in
       let c = calls m o.side in
-      let here = called up 0 (buffer_of at.setup.now at.payload.now end.side Past ∷ []) in
+      let here = called up 0 (buffer_of at.setup.now at.payload.now end.side 1 Past ∷ []) in
       let peer : List ℕ = (half (other end.side) (pipe_of at.setup.now at.payload.now (group_on end.s Past) end.s Past)).out in
       record {
         reply_is = ap (λ t. reply_of at.heard t)
@@ -186,7 +186,7 @@ module _ (at : Moment) (end : End) (place len : ℕ) (own theirs : Host) (hosts 
 
   -- an end that has fallen back
   pub write-fell : (result : Reply) (mine : Host) (posts : List Post) → posts ≡ [] → seen_state (state_at end.s own.core) ≡ FellBack
-      → mine.core ≡ own.core → mine.wire ≡ own.wire
+      → mine.core ≡ own.core → (wire_at 1 mine) ≡ (wire_at 1 own)
       → result ≡ fallen_write false (free (outflow_at end.s own.flows.items).bytes) (length Taken_in) Open
       → mine.flows.items ≡ slice_set own.flows.items end.s (takes_in Taken_in (outflow_at end.s own.flows.items))
       → IsPlayedBy at Told_by result posts end.side mine theirs

@@ -16,7 +16,7 @@ use Rattle.side_core.specs.Manager.{Manager, StandsFor, state_at}
 use Rattle.side_core.specs.Acting.{IsSoundAt, acts_at, call_of, due_at}
 use Rattle.world_core.specs.declared.host.Host.{Host}
 use Rattle.world_core.specs.declared.host.Outflow.{Outflow}
-use Rattle.world_core.specs.Hosts.{with_posts}
+use Rattle.world_core.specs.Hosts.{with_posts, wire_at}
 use Rattle.world_core.specs.Streams.{gives_out}
 use Rattle.world_core.specs.Sending.{carried_from, goes_on_wire, puts_all, outflow_at, MaySendAll}
 
@@ -26,14 +26,14 @@ pub record MayCall (s : ℕ) (call : Call) (h : Host) : Type 0 where
   pub sound : IsSoundAt h.core.records.terms.size (conn_at s h.core.records)
   pub plain : Manager Half
   pub stands : StandsFor h.core plain
-  pub room : length (filter goes_on_wire (due_at s (call_of call plain) plain)) ≤ room_of h.wire
+  pub room : length (filter goes_on_wire (due_at s (call_of call plain) plain)) ≤ room_of (wire_at 1 h)
   pub sent : (v : Manager Kept) → StandsFor v (acts_at s (call_of call plain) plain) → MaySendAll (length h.flows.items) v (due_at s (call_of call plain) plain)
 
 -- what a call does to the host: the end acts, and what is due to it then is sent
 pub record IsCalledAt (s : ℕ) (call : Call) (entry : ℕ) (m : Manager Half) (before now : Host) (posts : List Post) : Type 0 where
   pub side : StandsFor now.core (acts_at s (call_of call m) m)
   pub posts_are : posts ≡ due_at s (call_of call m) m
-  pub wire : now.wire ≡ with_posts (carried_from (acts_at s (call_of call m) m) entry 1 posts) before.wire
+  pub wire : (wire_at 1 now) ≡ with_posts (carried_from (acts_at s (call_of call m) m) entry 1 posts) (wire_at 1 before)
   pub flows : now.flows.items ≡ puts_all posts before.flows.items
 
 -- how many bytes an answer of an end hands out

@@ -1,6 +1,6 @@
 -- What the end of a socket is to take next from its peer's stream.
 -- A reader learns here when a CLC message comes to an end, and what is left at its sender then.
-use Rattle.std.specs.Prelude.{ℕ, Bool, true, false, not, List, [], ◌∷◌, Option, Some, None, slice_set}
+use Rattle.std.specs.Prelude.{ℕ, Bool, true, false, not, List, Option, Some, None, slice_set}
 use Rattle.clc_wire.specs.declared.message.ClcMessage.{ClcMessage}
 use Rattle.pipe_model.specs.declared.reply.Reply.{Reply}
 use Rattle.pipe_model.specs.declared.reply.Reply.TheVariants.{Sent}
@@ -33,14 +33,14 @@ due_of _ f = None
 abbrev pub due_on : ℕ → Manager Kept → List Outflow → Option Untaken
 due_on s v flows = due_of (seen_state (state_at s v)) (outflow_at s flows)
 
--- whether a message would be taken by the end of a socket, where there is one: it would not be held
-abbrev pub is_taken_by : ℕ → Manager Kept → Option Untaken → Bool
-is_taken_by s v None = false
-is_taken_by s v (Some next) = not (is_wait (verdict_at s next.message (true ∷ []) v))
+-- whether a message would be taken by the end of a socket where these paths are up, if there is one: it would not be held
+abbrev pub is_taken_by : ℕ → List Bool → Manager Kept → Option Untaken → Bool
+is_taken_by s paths v None = false
+is_taken_by s paths v (Some next) = not (is_wait (verdict_at s next.message paths v))
 
 -- whether the end of a socket would take the next one of its peer
-abbrev pub is_taken_on : ℕ → Manager Kept → List Outflow → Bool
-is_taken_on s v flows = is_taken_by s v (due_on s v flows)
+abbrev pub is_taken_on : ℕ → List Bool → Manager Kept → List Outflow → Bool
+is_taken_on s paths v flows = is_taken_by s paths v (due_on s v flows)
 
 -- a message leaves the stream of a socket
 abbrev pub hands_over : ℕ → ClcMessage → List Outflow → List Outflow

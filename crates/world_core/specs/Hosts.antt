@@ -1,14 +1,15 @@
 -- The two hosts of a world of one link, and what is true of them after a history.
 -- A reader learns here, subject by subject, for what of the history a manager, its wire and its streams stand, and what an event does to both hosts.
-use Rattle.std.specs.Prelude.{◌≡◌, ◌≤◌, ◌<◌, ℕ, ◌+◌, ◌*◌, ◌^◌, false, List, [], ◌∷◌, ◌++◌, length, map, filter_map, reverse, Option, Some, IfSome, option_map}
+use Rattle.std.specs.Prelude.{◌≡◌, ◌≤◌, ◌<◌, ℕ, ◌+◌, ◌*◌, ◌^◌, false, List, [], ◌∷◌, ◌++◌, length, map, filter_map, reverse, Option, Some, IfSome, option_map, Bool}
 use Rattle.smc_num.specs.declared.Side.{Side}
 use Rattle.smc_num.specs.declared.Side.TheVariants.{A}
-use Rattle.smc_num.specs.Names.{other, head}
+use Rattle.smc_num.specs.Names.{other, head, up_to}
+use Rattle.pipe_model.specs.Fabric.{path_up}
 use Rattle.pipe_model.specs.declared.snapshot.Snapshot.{Snapshot}
 use Rattle.pipe_model.specs.declared.sent.Sent.{Sent}
 use Rattle.pipe_model.specs.declared.setup.Setup.{Setup}
 use Rattle.pipe_model.specs.declared.entry.Entry.{Entry}
-use Rattle.pipe_model.specs.Words.{elements_of}
+use Rattle.pipe_model.specs.Words.{rmbs_of, elements_of}
 use Rattle.pipe_model.specs.History.{Offered, offered}
 use Rattle.pipe_model.specs.Wires.{unlanded, uncompleted}
 use Rattle.pipe_model.specs.Ends.{Half, to_land}
@@ -25,7 +26,7 @@ use Rattle.world_core.specs.Heard.{all_bytes}
 use Rattle.world_core.specs.Landed.{buffer_of}
 use Rattle.world_core.specs.Managers.{manager_of}
 use Rattle.world_core.specs.Steps.{Seen, entry_of, opening_order, past}
-use Rattle.world_core.specs.Sending.{outflow_at}
+use Rattle.world_core.specs.Sending.{outflow_at, wire_in}
 use Rattle.world_core.specs.declared.host.Untaken.{Untaken}
 use Rattle.world_core.specs.declared.host.Outflow.{Outflow}
 use Rattle.world_core.specs.declared.host.Host.{Host}
@@ -65,9 +66,14 @@ pub record TellsPlainly (x : Side) (token : ℕ) (w : Queues) (h : Half) : Type 
   pub landing : plains x token w.waiting ≡ shots (to_land h)
   pub completing : plains x token w.landed ≡ shots (returning h)
 
--- how many posts of a side the link has places for
+-- how many posts of a side a link has places for: for each of its elements as many snapshots of three posts as may be under way,
+-- with a validation message, and beside them 32 LLC messages
 abbrev pub places_of : Setup → Side → ℕ
-places_of setup x = 3 * (setup.depth * elements_of setup x) + 1
+places_of setup x = rmbs_of setup x * elements_of setup x * (3 * setup.depth + 1) + 32
+
+-- the wire of a slot
+abbrev pub wire_at : ℕ → Host → Queues
+wire_at slot h = wire_in slot h.wires.items
 
 -- a wire carries what the history has under way on the link, with the plain snapshots
 pub record IsWireAfter (setup : Setup) (payload : List ℕ) (x : Side) (past : List Entry) (w : Queues) : Type 0 where
@@ -96,8 +102,8 @@ pub record IsStreamAfter (payload : List ℕ) (x : Side) (s : ℕ) (past : List 
 -- a host of a side stands for what a history makes of it: its manager, with the bytes that have landed in its RMB, its wire and
 -- its streams
 pub record IsHostAfter (setup : Setup) (payload : List ℕ) (x : Side) (past : List Entry) (h : Host) : Type 0 where
-  pub side : StandsFor h.core (manager_of setup payload (buffer_of setup payload x past ∷ []) x past)
-  pub wire : IsWireAfter setup payload x past h.wire
+  pub side : StandsFor h.core (manager_of setup payload (buffer_of setup payload x 1 past ∷ []) x past)
+  pub wire : IsWireAfter setup payload x past (wire_at 1 h)
   pub sockets : length h.flows.items ≡ setup.sockets
   pub flows : (s : ℕ) → s < setup.sockets → IsStreamAfter payload x s past (outflow_at s h.flows.items)
 
@@ -108,6 +114,19 @@ pub record AreHostsAfter (setup : Setup) (payload : List ℕ) (past : List Entry
   pub played : IsPlayed setup payload past heard
   pub own : IsHostAfter setup payload x past mine
   pub theirs : IsHostAfter setup payload (other x) past peers
+
+-- which paths are up, by slot
+abbrev pub paths_after : Setup → List Entry → List Bool
+paths_after setup past = map (λ k. path_up k past) (up_to setup.links)
+
+-- the two hosts stand for some history in which a socket is a known one
+pub record KnowSocket (s : ℕ) (x : Side) (mine peers : Host) : Type 0 where
+  pub setup : Setup
+  pub payload : List ℕ
+  pub past : List Entry
+  pub heard : ℕ
+  pub hosts : AreHostsAfter setup payload past heard x mine peers
+  pub known : s < setup.sockets
 
 -- the entries that an event finds, the newest first
 abbrev pub past_of : Moment → List Entry
@@ -130,10 +149,11 @@ pub record IsPlayedBy (at : Moment) (event : Event) (reply : Reply) (posts : Lis
       (at.heard + handed (told_at at event)) x own theirs
 
 -- the world and its hosts stand for its history, which fits its room
-pub record IsWorldAfter (w : Seen) (a b : Host) (opened : List ℕ) (history_room heard_room opened_room : ℕ) : Type 0 where
+pub record IsWorldAfter (w : Seen) (a b : Host) (opened : List ℕ) (paths : List Bool) (history_room heard_room opened_room : ℕ) : Type 0 where
   pub hosts : AreHostsAfter w.setup w.payload (past w) (length w.heard) A a b
   pub heard_is : w.heard ≡ all_bytes w.setup w.payload (past w)
   pub order : opened ≡ opening_order (past w)
+  pub paths_are : paths ≡ paths_after w.setup (past w)
   pub entries : length w.history ≤ w.room.entries
   pub bytes : length w.heard ≤ w.room.bytes
   pub most_entries : w.room.entries ≤ 2 ^ 18

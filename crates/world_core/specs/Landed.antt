@@ -1,4 +1,4 @@
--- What stands in the one RMB of a side: the bytes of each write of the peer that has landed, at the write's address.
+-- What stands in an RMB of a side: the bytes of each write of the peer that has landed, at the write's address.
 -- A reader learns here which bytes a write carries, and when a wire carries the bytes of an end without a hole.
 use Rattle.std.specs.Prelude.{◌≡◌, ◌⊎◌, ◌<◌, ◌≤◌, ◌==◌, ℕ, ◌+◌, ◌-◌, ◌%◌, true, false, if◌then◌else◌, List, [], ◌∷◌, map, take, drop, slice_index_or, Option, Some, None, option_map, option_and_then, unwrap_or}
 use Rattle.smc_num.specs.declared.Side.{Side}
@@ -42,10 +42,11 @@ told_next h = unwrap_or (option_map (λ (m : Sent). m.snapshot.told) (head (to_l
 abbrev pub bytes_of : Half → ℕ → List Post → List ℕ
 bytes_of h len rest = take len (drop (told_next h - (len + carried rest)) h.out)
 
--- a write of a side lands for the connection of a lending
+-- a write of a side lands for the connection of a lending, in the buffer of the RMB that has its element
 abbrev pub written_for : Setup → List ℕ → Side → List Entry → ℕ → ℕ → List Post → Option Lending → Buffer → Buffer
 written_for setup payload x past address len rest None b = b
-written_for setup payload x past address len rest (Some l) b = lands address (bytes_of (half x (pipe_of setup payload l.group l.s past)) len rest) b
+written_for setup payload x past address len rest (Some l) b =
+    if l.place.rmb == b.rmb then lands address (bytes_of (half x (pipe_of setup payload l.group l.s past)) len rest) b else b
 
 -- the first of these posts of a side lands at its peer
 abbrev pub first_lands : Setup → List ℕ → Side → List Entry → List Post → Buffer → Buffer
@@ -53,16 +54,16 @@ first_lands setup payload x past (Write from link key address len ∷ rest) b =
     written_for setup payload x past address len rest (option_and_then (λ (m : CdcMessage). record_of setup payload (other x) m.token past) (next_cdc rest)) b
 first_lands setup payload x past _ b = b
 
--- the buffer of the one RMB of a side's peer, which the side writes into
-abbrev pub peer_buffer : Setup → List ℕ → Side → List Entry → Buffer
-peer_buffer setup payload x [] = fresh 1 (elements_of setup (other x)) (element_size setup)
-peer_buffer setup payload x (e ∷ past) =
-    if landing_now the_link x e past == 0 then peer_buffer setup payload x past
-    else first_lands setup payload x past (waiting_posts x past) (peer_buffer setup payload x past)
+-- the buffer of an RMB of a side's peer, which the side writes into
+abbrev pub peer_buffer : Setup → List ℕ → Side → ℕ → List Entry → Buffer
+peer_buffer setup payload x rmb [] = fresh rmb (elements_of setup (other x)) (element_size setup)
+peer_buffer setup payload x rmb (e ∷ past) =
+    if landing_now the_link x e past == 0 then peer_buffer setup payload x rmb past
+    else first_lands setup payload x past (waiting_posts x past) (peer_buffer setup payload x rmb past)
 
--- the buffer of a side's one RMB after a history
-abbrev pub buffer_of : Setup → List ℕ → Side → List Entry → Buffer
-buffer_of setup payload y past = peer_buffer setup payload (other y) past
+-- the buffer of an RMB of a side after a history
+abbrev pub buffer_of : Setup → List ℕ → Side → ℕ → List Entry → Buffer
+buffer_of setup payload y rmb past = peer_buffer setup payload (other y) rmb past
 
 -- that the bytes of a stream from one count to another stand at their places in an element
 abbrev pub Stand : ℕ → Place → ℕ → ℕ → List ℕ → Buffer → Type 0
@@ -98,7 +99,7 @@ pub record Reaches (setup : Setup) (payload : List ℕ) (x : Side) (s : ℕ) (o 
   pub reach : ℕ
   pub carries : Carries (element_size setup) x (offered_place o.offer) o.offer.token reach (waiting_posts x past) (to_land (half x (pipe_of setup payload 1 s past))) (half x (pipe_of setup payload 1 s past)).last.told
   pub told : (half (other x) (pipe_of setup payload 1 s past)).taken.told ≤ reach
-  pub stand : Stand (element_size setup) (offered_place o.offer) (half (other x) (pipe_of setup payload 1 s past)).rd reach (half x (pipe_of setup payload 1 s past)).out (peer_buffer setup payload x past)
+  pub stand : Stand (element_size setup) (offered_place o.offer) (half (other x) (pipe_of setup payload 1 s past)).rd reach (half x (pipe_of setup payload 1 s past)).out (peer_buffer setup payload x 1 past)
 
 -- that a buffer is the one RMB of a side
 pub record IsRmb (setup : Setup) (y : Side) (b : Buffer) : Type 0 where

@@ -1,28 +1,51 @@
 -- A post that has just left the wire of a side, while both hosts still stand for the history before that.
 -- A reader learns here what is known of the hosts between the landing or completion of a post and what they do with it.
-use Rattle.std.specs.Prelude.{◌≡◌, Some}
+use Rattle.std.specs.Prelude.{◌≡◌, Bool, true, false, Some}
 use Rattle.smc_num.specs.declared.Side.{Side}
+use Rattle.pipe_model.specs.declared.event.Event.{Event}
+use Rattle.pipe_model.specs.declared.event.Event.TheVariants.{Deliver, Complete}
+use Rattle.pipe_model.specs.declared.post.Post.{Post}
+use Rattle.pipe_model.specs.declared.post.Post.TheVariants.{Write, Cdc, Llc}
 use Rattle.rc_link.specs.declared.Carried.{Carried}
-use Rattle.rc_link.specs.Wire.{Queues, landing, completing, with_landed, with_completed}
+use Rattle.rc_link.specs.Wire.{landing, completing, with_landed, with_completed}
 use Rattle.world_core.specs.declared.host.Host.{Host}
 use Rattle.world_core.specs.declared.moment.Moment.{Moment}
-use Rattle.world_core.specs.Hosts.{AreHosts}
+use Rattle.world_core.specs.Hosts.{AreHosts, wire_at}
 
--- a host with another wire
-abbrev pub with_wire : Queues → Host → Host
-with_wire w h = record h { wire = w }
+-- the events with which a post leaves a wire, on the one slot
+abbrev pub IsLeaving : Event → Type 0
+IsLeaving (Deliver slot dir) = slot ≡ 1
+IsLeaving (Complete slot dir) = slot ≡ 1
+IsLeaving _ = ⊥
 
--- that a post of a side has just landed: its host `h` stood for the history with the wire that still had the post, and the peer's
--- host `k` stands for it
+-- whether a post is a write, a CDC message or an LLC message
+abbrev pub is_write_post : Post → Bool
+is_write_post (Write from link key address len) = true
+is_write_post _ = false
+
+abbrev pub is_cdc_post : Post → Bool
+is_cdc_post (Cdc from link message) = true
+is_cdc_post _ = false
+
+abbrev pub is_llc_post : Post → Bool
+is_llc_post (Llc from link message) = true
+is_llc_post _ = false
+
+-- that a post of a side has just landed: the peer's host `k` stands for the history, and its own host `h` did, as it was when the
+-- wire still had the post
 pub record HasLanded (at : Moment) (x : Side) (c : Carried) (h k : Host) : Type 0 where
-  pub before : Queues
-  pub first : landing before ≡ Some c
-  pub wire : h.wire ≡ with_landed (Some c) before
-  pub hosts : AreHosts at x (with_wire before h) k
+  pub was : Host
+  pub first : landing (wire_at 1 was) ≡ Some c
+  pub wire : wire_at 1 h ≡ with_landed (Some c) (wire_at 1 was)
+  pub core : h.core ≡ was.core
+  pub flows : h.flows.items ≡ was.flows.items
+  pub hosts : AreHosts at x was k
 
 -- that one has just completed
 pub record HasCompleted (at : Moment) (x : Side) (c : Carried) (h k : Host) : Type 0 where
-  pub before : Queues
-  pub first : completing before ≡ Some c
-  pub wire : h.wire ≡ with_completed (Some c) before
-  pub hosts : AreHosts at x (with_wire before h) k
+  pub was : Host
+  pub first : completing (wire_at 1 was) ≡ Some c
+  pub wire : wire_at 1 h ≡ with_completed (Some c) (wire_at 1 was)
+  pub core : h.core ≡ was.core
+  pub flows : h.flows.items ≡ was.flows.items
+  pub hosts : AreHosts at x was k

@@ -1,6 +1,6 @@
 -- How the posts of an entry leave a host: CLC messages into the streams of their sockets, all others on the wire of the link.
 -- A reader learns here what a host keeps of them, and what leaves a wire or a stream with an event.
-use Rattle.std.specs.Prelude.{◌<◌, ℕ, ◌+◌, Bool, true, false, if◌then◌else◌, List, [], ◌∷◌, ◌++◌, take, drop, slice_index_or, slice_set, Option, Some, None, IsSome, option_map, unwrap_or}
+use Rattle.std.specs.Prelude.{◌≡◌, ◌<◌, ℕ, ◌+◌, ◌-◌, Bool, true, false, if◌then◌else◌, List, [], ◌∷◌, ◌++◌, take, drop, slice_index_or, slice_set, Option, Some, None, IsSome, option_map, unwrap_or}
 use Rattle.smc_num.specs.declared.Side.{Side}
 use Rattle.smc_num.specs.declared.Side.TheVariants.{A}
 use Rattle.smc_num.specs.Names.{same_side, other}
@@ -11,16 +11,20 @@ use Rattle.pipe_model.specs.declared.snapshot.Snapshot.{Snapshot}
 use Rattle.pipe_model.specs.declared.event.Event.{Event}
 use Rattle.pipe_model.specs.declared.event.Event.TheVariants.{Write as WriteEvent, Read, Clc as ClcEvent, Deliver, Complete}
 use Rattle.pipe_model.specs.declared.post.Post.{Post}
-use Rattle.pipe_model.specs.declared.post.Post.TheVariants.{Cdc, Clc}
+use Rattle.pipe_model.specs.declared.post.Post.TheVariants.{Write, Cdc, Llc, Clc}
 use Rattle.pipe_model.specs.declared.post.PostRef.{PostRef}
 use Rattle.pipe_model.specs.Ends.{Half}
 use Rattle.tcp_pipe.specs.Streams.{free}
 use Rattle.rc_link.specs.declared.Carried.{Carried}
-use Rattle.rc_link.specs.Wire.{Queues, with_post, landing, completing, with_landed, with_completed}
+use Rattle.rc_link.specs.Wire.{Queues, empty, with_post, landing, completing, with_landed, with_completed}
 use Rattle.conn_end.specs.Kept.{Kept}
 use Rattle.side_core.specs.Records.{aimer, half_at}
 use Rattle.side_core.specs.Manager.{Manager}
 use Rattle.world_core.specs.declared.host.Outflow.{Outflow}
+
+-- the wire of a slot, from 1 on, among those of a host: one that carries nothing where there is none
+abbrev pub wire_in : ℕ → List Queues → Queues
+wire_in slot wires = slice_index_or wires (slot - 1) (empty 0 false)
 
 -- a snapshot that tells nothing
 abbrev pub no_snapshot : Snapshot
@@ -87,11 +91,13 @@ acting_side (Deliver slot dir) = other dir
 acting_side (Complete slot dir) = dir
 acting_side _ = A
 
--- that a post may be sent: the token of a CDC message names an end, and a CLC message is for a socket that there is, and fits
+-- that a post may be sent: it goes on the one slot; the token of a CDC message names an end; and a CLC message is for a socket
+-- that there is, and fits
 abbrev pub MaySend : ℕ → Manager Kept → Post → Type 0
-MaySend sockets v (Cdc from link message) = IsSome (aimer message.token v.records)
+MaySend sockets v (Write from link key address len) = link.slot ≡ 1
+MaySend sockets v (Cdc from link message) = (link.slot ≡ 1) × IsSome (aimer message.token v.records)
+MaySend sockets v (Llc from link message) = link.slot ≡ 1
 MaySend sockets v (Clc from s link message) = (s < sockets) × Fits message
-MaySend sockets v _ = Unit {0}
 
 -- that each of them may
 abbrev pub MaySendAll : ℕ → Manager Kept → List Post → Type 0

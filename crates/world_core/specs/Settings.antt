@@ -27,19 +27,31 @@ subnet_of setup x = at_side x (slice_index_or setup.subnet 0 (0, 0)) (slice_inde
 abbrev pub or_bad : Field → ℕ → Bool → Option BadField → Option BadField
 or_bad field value good later = if good then later else Some (record { field = field; value = value })
 
--- the first field outside its range, A before B; one link, one RMB a side and one snapshot under way are built
-abbrev pub bad_field : Setup → Room → Option BadField
-bad_field setup room =
+-- the fields of the subnets and of the links
+abbrev pub or_bad_link : Setup → Option BadField → Option BadField
+or_bad_link setup later =
     or_bad (Subnet A) ((subnet_of setup A).0 * 256 + (subnet_of setup A).1) (is_subnet (subnet_of setup A)) (
     or_bad (Subnet B) ((subnet_of setup B).0 * 256 + (subnet_of setup B).1) (is_subnet (subnet_of setup B)) (
     or_bad Links setup.links (setup.links == 1) (
-    or_bad Size setup.size_code (nat_le setup.size_code 5) (
+    or_bad Size setup.size_code (nat_le setup.size_code 5) later)))
+
+-- those of the RMBs and their elements
+abbrev pub or_bad_rmb : Setup → Option BadField → Option BadField
+or_bad_rmb setup later =
     or_bad (Rmbs A) (rmbs_of setup A) (rmbs_of setup A == 1) (
     or_bad (Rmbs B) (rmbs_of setup B) (rmbs_of setup B == 1) (
     or_bad (Elements A) (elements_of setup A) (within 1 32 (elements_of setup A)) (
-    or_bad (Elements B) (elements_of setup B) (within 1 32 (elements_of setup B)) (
+    or_bad (Elements B) (elements_of setup B) (within 1 32 (elements_of setup B)) later)))
+
+-- those of the connections, and the room
+abbrev pub bad_count : Setup → Room → Option BadField
+bad_count setup room =
     or_bad Depth setup.depth (setup.depth == 1) (
     or_bad Number setup.number (within 1 65535 setup.number) (
     or_bad Sockets setup.sockets (within 1 256 setup.sockets) (
     or_bad Entries room.entries (within 1 262144 room.entries) (
-    or_bad Bytes room.bytes (within 1 67108864 room.bytes) None))))))))))))
+    or_bad Bytes room.bytes (within 1 67108864 room.bytes) None))))
+
+-- the first field outside its range, A before B; one link, one RMB a side and one snapshot under way are built
+abbrev pub bad_field : Setup → Room → Option BadField
+bad_field setup room = or_bad_link setup (or_bad_rmb setup (bad_count setup room))

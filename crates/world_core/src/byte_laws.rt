@@ -20,7 +20,7 @@ ghost use Rattle.world_core.specs.Landed.{buffer_of, IsRmb, Reaches};
 /// The buffer of a side is its one RMB, with all its bytes.
 pub fn a_buffer_is_the_rmb()
     ensures { (setup : Settings) → IsOneLink setup → (payload : List ℕ) (past : List Line) (n : ℕ)
-        → IsPlayed setup payload past n → (y : Peer) → IsRmb setup y (buffer_of setup payload y past) }
+        → IsPlayed setup payload past n → (y : Peer) → IsRmb setup y (buffer_of setup payload y 1 past) }
 {}
 
 /// The bytes of an end have landed without a hole up to some place, which is no less than what its
@@ -38,6 +38,6 @@ pub fn told_bytes_stand_in_the_element()
         → IsPlayed setup payload past n → (y : Peer) (s : ℕ) (o : Offered) → offered y s past ≡ Some o
         → (k : ℕ) → (half y (pipe_of setup payload (group_on s past) s past)).rd ≤ k
         → k < (half y (pipe_of setup payload (group_on s past) s past)).taken.told
-        → byte_at (address_of (element_size setup) (offered_place o.offer) k) (buffer_of setup payload y past)
+        → byte_at (address_of (element_size setup) (offered_place o.offer) k) (buffer_of setup payload y 1 past)
         ≡ slice_index_or (half (other y) (pipe_of setup payload (group_on s past) s past)).out k 0 }
 {}

@@ -6,6 +6,7 @@ ghost use Rattle.pipe_model.specs.Calls.{Plain, Writes, Reads};
 ghost use Rattle.pipe_model.specs.Connections.{IsUp};
 ghost use Rattle.pipe_model.specs.Fallback.{fallen_read, fallen_write};
 ghost use Rattle.pipe_model.specs.Lawful.{reply_of};
+ghost use Rattle.pipe_model.specs.Replies.{told};
 ghost use Rattle.pipe_model.specs.declared.event.Event.TheVariants.{Write, Read};
 ghost use Rattle.tcp_pipe.specs.Streams.{free};
 ghost use Rattle.conn_end.specs.Told.{Answers};
@@ -18,7 +19,8 @@ ghost use Rattle.world_core.specs.Streams.{takes_in};
 ghost use Rattle.world_core.specs.Sending.{outflow_at};
 ghost use Rattle.world_core.specs.Played.{handed};
 ghost use Rattle.world_core.specs.Heard.{told_bytes};
-ghost use Rattle.world_core.specs.Hosts.{AreHosts, IsPlayedBy, told_at};
+ghost use Rattle.world_core.specs.Hosts.{AreHosts, IsPlayedBy, KnowSocket, told_at};
+ghost use Rattle.world_core.specs.declared.host.Host.{Host as HostT};
 
 use crate::host::{Host, Outflow};
 use crate::moment::Moment;
@@ -31,19 +33,18 @@ use pipe_model::{End, Post, Reply, Side};
 /// an end that has fallen back what its stream has room for.
 pub fn write(
     own: &mut Host,
-    theirs: &Host,
     moment: Moment<'_>,
     end: End,
     at: u32,
     len: u32,
     posts: &mut ArrayVec<Post, 6>,
 ) -> Reply
-    requires hosts { AreHosts moment end.side own.old theirs.now }
+    requires hosts { (theirs : HostT) × AreHosts moment end.side own.old theirs }
     requires few { length moment.history.now < 2 ^ 18 }
     requires socket { end.s < moment.setup.now.sockets }
     requires within { at + len ≤ length moment.payload.now }
     requires none { posts.old.items ≡ [] }
-    ensures { IsPlayedBy moment.entry (Write end at len) result posts.new.items end.side own.new theirs.now }
+    ensures { (theirs : HostT) → AreHosts moment.entry end.side own.old theirs → IsPlayedBy moment.entry (Write end at len) result posts.new.items end.side own.new theirs }
 {
     let bytes = bytes_of(moment.payload, at, len);
     match own.core.end_state(end.s) {
@@ -55,10 +56,9 @@ pub fn write(
 }
 
 /// How many bytes a read would hand out.
-pub fn due_bytes(own: &Host, theirs: &Host, moment: Moment<'_>, end: End, len: u32) -> u32
-    requires hosts { AreHosts moment end.side own.now theirs.now }
-    requires socket { end.s < moment.setup.now.sockets }
-    ensures { result ≡ handed (told_at moment.entry (Read end len)) }
+pub fn due_bytes(own: &Host, theirs: &Host, end: End, len: u32) -> u32
+    requires { KnowSocket end.s end.side own.now theirs.now }
+    ensures { (k : KnowSocket end.s end.side own.now theirs.now) → result ≡ handed (told k.setup k.payload k.past (Read end len)) }
 {
     match own.core.end_state(end.s) {
         EndState::Up => count_of(own.core.would_read(end.s, len)),
@@ -91,7 +91,7 @@ pub fn read(
 {
     match own.core.end_state(end.s) {
         EndState::Absent => Reply::NoSocket,
-        EndState::Up => read_established(own, theirs, moment, end, len, heard, posts),
+        EndState::Up => read_established(own, moment, end, len, heard, posts),
         EndState::FellBack => read_fallen(&mut theirs.flows, end.s, len, heard),
         _ => Reply::NotYet,
     }
@@ -100,14 +100,13 @@ pub fn read(
 /// The same where the end is established: its bytes are copied into new places at the end of `heard`.
 fn read_established(
     own: &mut Host,
-    theirs: &Host,
     moment: Moment<'_>,
     end: End,
     len: u32,
     heard: &mut Vec<u8>,
     posts: &mut ArrayVec<Post, 6>,
 ) -> Reply
-    requires hosts { AreHosts moment end.side own.old theirs.now }
+    requires hosts { (theirs : HostT) × AreHosts moment end.side own.old theirs }
     requires few { length moment.history.now < 2 ^ 18 }
     requires socket { end.s < moment.setup.now.sockets }
     requires up { state_at end.s own.old.core ≡ IsUp }
@@ -115,7 +114,7 @@ fn read_established(
     requires room { vec_len heard.old + handed (told_at moment (Read end len)) ≤ vec_capacity heard.old }
     requires least { vec_len heard.old < 2 ^ 32 }
     requires none { posts.old.items ≡ [] }
-    ensures played { IsPlayedBy moment.entry (Read end len) result posts.new.items end.side own.new theirs.now }
+    ensures played { (theirs : HostT) → AreHosts moment.entry end.side own.old theirs → IsPlayedBy moment.entry (Read end len) result posts.new.items end.side own.new theirs }
     ensures heard { heard.new.items ≡ heard.old.items ++ told_bytes (told_at moment.entry (Read end len)) }
     ensures capacity { vec_capacity heard.old ≤ vec_capacity heard.new }
 {

@@ -1,5 +1,6 @@
 //! A socket is opened, and its hosts take each other's CLC messages.
 ghost use Rattle.std.specs.Prelude.{◌≡◌, ◌<◌, ◌≤◌, ◌^◌, length, [], Some};
+ghost use Rattle.smc_num.specs.declared.Side.{Side as SideT};
 ghost use Rattle.smc_num.specs.declared.Side.TheVariants.{A};
 ghost use Rattle.smc_num.specs.Names.{other};
 ghost use Rattle.clc_wire.specs.Clc.{clc_length};
@@ -8,13 +9,13 @@ ghost use Rattle.pipe_model.specs.Ends.{Half};
 ghost use Rattle.side_core.specs.Manager.{Manager, StandsFor, state_at};
 ghost use Rattle.side_core.specs.Taking.{with_desk};
 ghost use Rattle.world_core.specs.Handing.{due_on, has_end, hands_over, is_taken_on, link_made_by, makes_at, MayMake};
-ghost use Rattle.world_core.specs.Hosts.{AreHosts, IsPlayedBy};
+ghost use Rattle.world_core.specs.Hosts.{AreHosts, IsPlayedBy, past_of, paths_after};
 
 use crate::host::{Host, Untaken};
 use crate::moment::Moment;
 use arrayvec::ArrayVec;
 use clc_handshake::EndState;
-use pipe_model::{ClcMessage, Lack, LinkId, Post, Reply, SentKind, Side};
+use pipe_model::{ClcMessage, Lack, LinkId, Post, Reply, SentKind};
 use side_core::SideCore;
 
 /// A socket is opened: the client proposes, or, where a side is not capable, both ends fall back.
@@ -56,12 +57,13 @@ fn is_opened(core: &SideCore, s: u32) -> bool
 
 /// Whether an end would take the next CLC message of its peer on a socket: there is one, and it would not
 /// be held.
-pub fn would_take(own: &Host, theirs: &Host, s: u32) -> bool
-    requires { s < length theirs.now.flows.items }
-    ensures { result ≡ is_taken_on s own.now.core theirs.now.flows.items }
+pub fn would_take(own: &Host, theirs: &Host, s: u32, paths: &[bool]) -> bool
+    requires socket { s < length theirs.now.flows.items }
+    requires paths { length paths.now ≡ 1 }
+    ensures { result ≡ is_taken_on s paths.now own.now.core theirs.now.flows.items }
 {
     match due(own, theirs, s) {
-        Some(next) => !own.core.would_hold(s, &next.message, &[true]),
+        Some(next) => !own.core.would_hold(s, &next.message, paths),
         None => false,
     }
 }
@@ -77,47 +79,47 @@ fn due(own: &Host, theirs: &Host, s: u32) -> Option<Untaken>
     }
 }
 
-/// The peer of a side takes its next CLC message on a socket, if there is one. A message that is held stays.
+/// A host takes the next CLC message of its peer on a socket, if there is one. A message that is held stays.
 pub fn take(
     own: &mut Host,
     theirs: &mut Host,
     moment: Moment<'_>,
     s: u32,
-    dir: Side,
     posts: &mut ArrayVec<Post, 6>,
 ) -> Reply
-    requires hosts { AreHosts moment (other dir) own.old theirs.old }
+    requires hosts { (dir : SideT) × AreHosts moment (other dir) own.old theirs.old }
     requires few { length moment.history.now < 2 ^ 18 }
     requires socket { s < moment.setup.now.sockets }
+    requires paths { moment.paths.now ≡ paths_after moment.setup.now (past_of moment) }
     requires none { posts.old.items ≡ [] }
-    ensures { IsPlayedBy moment.entry (Clc s dir) result posts.new.items (other dir) own.new theirs.new }
+    ensures { (dir : SideT) → AreHosts moment.entry (other dir) own.old theirs.old → IsPlayedBy moment.entry (Clc s dir) result posts.new.items (other dir) own.new theirs.new }
 {
     match due(own, theirs, s) {
-        Some(next) => take_next(own, theirs, moment, s, dir, &next, posts),
+        Some(next) => take_next(own, theirs, moment, s, &next, posts),
         None => Reply::Idle,
     }
 }
 
-/// The peer of a side takes this CLC message.
+/// A host takes this CLC message of its peer.
 fn take_next(
     own: &mut Host,
     theirs: &mut Host,
     moment: Moment<'_>,
     s: u32,
-    dir: Side,
     next: &Untaken,
     posts: &mut ArrayVec<Post, 6>,
 ) -> Reply
-    requires hosts { AreHosts moment (other dir) own.old theirs.old }
+    requires hosts { (dir : SideT) × AreHosts moment (other dir) own.old theirs.old }
     requires few { length moment.history.now < 2 ^ 18 }
     requires socket { s < moment.setup.now.sockets }
+    requires paths { moment.paths.now ≡ paths_after moment.setup.now (past_of moment) }
     requires due { due_on s own.old.core theirs.old.flows.items ≡ Some next.now }
     requires none { posts.old.items ≡ [] }
-    ensures { IsPlayedBy moment.entry (Clc s dir) result posts.new.items (other dir) own.new theirs.new }
+    ensures { (dir : SideT) → AreHosts moment.entry (other dir) own.old theirs.old → IsPlayedBy moment.entry (Clc s dir) result posts.new.items (other dir) own.new theirs.new }
 {
     let reply = own
         .core
-        .take_clc(s, &next.message, next.link, &[true], posts);
+        .take_clc(s, &next.message, next.link, moment.paths, posts);
     if let Reply::Held(_) = reply {
         return reply;
     }
@@ -132,7 +134,7 @@ fn hand_over(host: &mut Host, s: u32, next: &Untaken, reply: Reply)
     requires socket { s < length host.old.flows.items }
     requires made { MayMake (link_made_by reply next.now.link) host.old.core.desk }
     ensures core { (m : Manager Half) → StandsFor host.old.core m → StandsFor host.new.core (with_desk (makes_at (link_made_by reply next.now.link)) m) }
-    ensures wire { host.new.wire ≡ host.old.wire }
+    ensures wires { host.new.wires.items ≡ host.old.wires.items }
     ensures flows { host.new.flows.items ≡ hands_over s next.now.message host.old.flows.items }
 {
     let flow = &mut host.flows[s as usize];

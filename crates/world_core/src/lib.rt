@@ -11,15 +11,18 @@
 
 mod byte_laws;
 mod calls;
+mod events;
 mod handshake;
 mod host;
 mod lawful_laws;
 mod laws;
 mod link;
+mod lists;
 mod moment;
 mod settings;
 mod stream_laws;
 mod wire_laws;
+mod wires;
 mod world;
 mod world_laws;
 

@@ -1,6 +1,6 @@
 //! Which settings a world takes.
-ghost use Rattle.std.specs.Prelude.{◌≡◌, ◌+◌, ◌*◌, Some};
-ghost use Rattle.world_core.specs.Settings.{bad_field, is_subnet};
+ghost use Rattle.std.specs.Prelude.{◌≡◌, ◌+◌, ◌*◌, Some, None};
+ghost use Rattle.world_core.specs.Settings.{bad_count, bad_field, is_subnet, or_bad_link, or_bad_rmb, within};
 
 use pipe_model::{Room, Setup, Side};
 
@@ -48,9 +48,16 @@ fn bad(field: Field, value: u64) -> Option<BadField>
     Some(BadField { field, value })
 }
 
-/// The first field outside its range, A before B, then the room's.
-pub fn bad_field(setup: &Setup, room: Room) -> Option<BadField>
-    ensures { result ≡ bad_field setup.now room }
+/// Whether a number is in a range.
+fn within(low: u32, high: u32, n: u32) -> bool
+    ensures { result ≡ within low high n }
+{
+    low <= n && n <= high
+}
+
+/// The first bad field of the subnets and of the links.
+fn bad_link(setup: &Setup) -> Option<BadField>
+    ensures { result ≡ or_bad_link setup.now None }
 {
     let [a, b] = setup.subnet;
     if !is_subnet(a) {
@@ -65,32 +72,57 @@ pub fn bad_field(setup: &Setup, room: Room) -> Option<BadField>
     if setup.size_code > 5 {
         return bad(Field::Size, setup.size_code as u64);
     }
-    if setup.rmbs[0] != 1 {
-        return bad(Field::Rmbs(Side::A), setup.rmbs[0] as u64);
+    None
+}
+
+/// The first bad field of the RMBs and their elements.
+fn bad_rmb(setup: &Setup) -> Option<BadField>
+    ensures { result ≡ or_bad_rmb setup.now None }
+{
+    let [a, b] = setup.rmbs;
+    if a != 1 {
+        return bad(Field::Rmbs(Side::A), a as u64);
     }
-    if setup.rmbs[1] != 1 {
-        return bad(Field::Rmbs(Side::B), setup.rmbs[1] as u64);
+    if b != 1 {
+        return bad(Field::Rmbs(Side::B), b as u64);
     }
-    if setup.elements[0] < 1 || setup.elements[0] > 32 {
-        return bad(Field::Elements(Side::A), setup.elements[0] as u64);
+    let [a, b] = setup.elements;
+    if !within(1, 32, a as u32) {
+        return bad(Field::Elements(Side::A), a as u64);
     }
-    if setup.elements[1] < 1 || setup.elements[1] > 32 {
-        return bad(Field::Elements(Side::B), setup.elements[1] as u64);
+    if !within(1, 32, b as u32) {
+        return bad(Field::Elements(Side::B), b as u64);
     }
+    None
+}
+
+/// The first bad field of the connections, or of the room.
+fn bad_count(setup: &Setup, room: Room) -> Option<BadField>
+    ensures { result ≡ bad_count setup.now room }
+{
     if setup.depth != 1 {
         return bad(Field::Depth, setup.depth as u64);
     }
-    if setup.number == 0 {
+    if !within(1, 65_535, setup.number as u32) {
         return bad(Field::Number, setup.number as u64);
     }
-    if setup.sockets < 1 || setup.sockets > 256 {
+    if !within(1, 256, setup.sockets) {
         return bad(Field::Sockets, setup.sockets as u64);
     }
-    if room.entries < 1 || room.entries > 262_144 {
+    if !within(1, 262_144, room.entries) {
         return bad(Field::Entries, room.entries as u64);
     }
-    if room.bytes < 1 || room.bytes > 67_108_864 {
+    if !within(1, 67_108_864, room.bytes) {
         return bad(Field::Bytes, room.bytes as u64);
     }
     None
+}
+
+/// The first field outside its range, A before B, then the room's.
+pub fn bad_field(setup: &Setup, room: Room) -> Option<BadField>
+    ensures { result ≡ bad_field setup.now room }
+{
+    bad_link(setup)
+        .or(bad_rmb(setup))
+        .or(bad_count(setup, room))
 }

@@ -14,12 +14,13 @@ ghost use Rattle.world_core.specs.Hosts.{AreHosts, IsPlayedBy, told_at};
 ghost use Rattle.world_core.specs.declared.settings.BadField.{BadField as Bad};
 ghost use Rattle.world_core.specs.declared.world.NewFault.TheVariants.{BadSetup};
 
-use crate::calls::{due_bytes, read, write};
-use crate::handshake::{open, take, would_take};
+use crate::events::{act, due_on};
+use crate::handshake::would_take;
 use crate::host::Host;
-use crate::link::{complete, deliver};
+use crate::lists::{all_up, push_within, with_room};
 use crate::moment::Moment;
 use crate::settings::{BadField, Field, bad_field};
+use crate::wires::{can_complete, can_land};
 use arrayvec::ArrayVec;
 use pipe_model::{Entry, Event, Post, Posts, Reply, Room, Setup, Side, StepFault};
 use smc_num::NoMemory;
@@ -47,6 +48,8 @@ pub struct World {
     b: Host,
     // The sockets in the order in which they were opened; an entry opens one at most.
     opened: Vec<u32>,
+    // Which paths are up, by slot.
+    paths: Vec<bool>,
 }
 
 impl Model for World {
@@ -58,72 +61,7 @@ impl Model for World {
 
     ghost view = { λ w. record { setup = w.setup; payload = w.payload.items; room = w.room; history = w.history.items; heard = w.heard.items } };
 
-    ghost invariant = { λ w. IsWorldAfter (record { setup = w.setup; payload = w.payload.items; room = w.room; history = w.history.items; heard = w.heard.items }) w.a w.b w.opened.items (vec_capacity w.history) (vec_capacity w.heard) (vec_capacity w.opened) };
-}
-
-/// Appends within the capacity.
-fn push_within<T: Drop>(list: &mut Vec<T>, item: T)
-    requires { vec_len list.old < vec_capacity list.old }
-    ensures items { list.new.items ≡ list.old.items ++ item ∷ [] }
-    ensures capacity { vec_capacity list.old ≤ vec_capacity list.new }
-{
-    let _ = list.push(item);
-}
-
-/// Room for so many.
-fn with_room<T: Drop>(alloc: Global, room: u32) -> Result<Vec<T>, NoMemory>
-    ensures { IfOk result (λ list. (list.items ≡ []) × (room ≤ vec_capacity list)) }
-{
-    match Vec::with_capacity(alloc, room as usize) {
-        Ok(list) => Ok(list),
-        Err(_) => Err(NoMemory),
-    }
-}
-
-/// An event on the hosts of A and B.
-fn act(
-    a: &mut Host,
-    b: &mut Host,
-    moment: Moment<'_>,
-    event: Event,
-    heard: &mut Vec<u8>,
-    posts: &mut ArrayVec<Post, 6>,
-) -> Reply
-    requires hosts { AreHosts moment A a.old b.old }
-    requires few { length moment.history.now < 2 ^ 18 }
-    requires fits { Fits moment.setup.now (length moment.payload.now) event }
-    requires before { vec_len heard.old ≡ moment.heard }
-    requires room { vec_len heard.old + handed (told_at moment event) ≤ vec_capacity heard.old }
-    requires least { vec_len heard.old + handed (told_at moment event) ≤ 2 ^ 26 }
-    requires none { posts.old.items ≡ [] }
-    ensures played { IsPlayedBy moment.entry event result posts.new.items A a.new b.new }
-    ensures heard { heard.new.items ≡ heard.old.items ++ told_bytes (told_at moment.entry event) }
-    ensures capacity { vec_capacity heard.old ≤ vec_capacity heard.new }
-{
-    match event {
-        Event::Open(s) => open(a, b, moment, s, posts),
-        Event::Clc { s, dir } => match dir {
-            Side::A => take(b, a, moment, s, dir, posts),
-            Side::B => take(a, b, moment, s, dir, posts),
-        },
-        Event::Write { end, at, len } => match end.side {
-            Side::A => write(a, b, moment, end, at, len, posts),
-            Side::B => write(b, a, moment, end, at, len, posts),
-        },
-        Event::Read { end, len } => match end.side {
-            Side::A => read(a, b, moment, end, len, heard, posts),
-            Side::B => read(b, a, moment, end, len, heard, posts),
-        },
-        Event::Deliver { dir, .. } => match dir {
-            Side::A => deliver(a, b, moment, dir, posts),
-            Side::B => deliver(b, a, moment, dir, posts),
-        },
-        Event::Complete { dir, .. } => match dir {
-            Side::A => complete(a, b, moment, dir, posts),
-            Side::B => complete(b, a, moment, dir, posts),
-        },
-        _ => unreachable!(),
-    }
+    ghost invariant = { λ w. IsWorldAfter (record { setup = w.setup; payload = w.payload.items; room = w.room; history = w.history.items; heard = w.heard.items }) w.a w.b w.opened.items w.paths.items (vec_capacity w.history) (vec_capacity w.heard) (vec_capacity w.opened) };
 }
 
 /// Notes the socket that an entry opens, if it opens one.
@@ -162,15 +100,42 @@ impl World {
         requires payload { length payload.items < 2 ^ 32 }
         ensures { IfOk result (λ world. world ≡ fresh_world setup.now payload.items room) }
     {
+        let history = with_room(alloc, room.entries)?;
+        let heard = with_room(alloc, room.bytes)?;
+        let opened = with_room(alloc, room.entries)?;
+        World::hosted(alloc, setup, payload, room, history, heard, opened)
+    }
+
+    /// A world over these empty lists.
+    fn hosted(
+        alloc: Global,
+        setup: &Setup,
+        payload: Vec<u8>,
+        room: Room,
+        history: Vec<Entry>,
+        heard: Vec<u8>,
+        opened: Vec<u32>,
+    ) -> Result<World, NoMemory>
+        requires good { first_bad setup.now room ≡ None }
+        requires payload { length payload.items < 2 ^ 32 }
+        requires history { (history.items ≡ []) × (room.entries ≤ vec_capacity history) }
+        requires heard { (heard.items ≡ []) × (room.bytes ≤ vec_capacity heard) }
+        requires opened { (opened.items ≡ []) × (room.entries ≤ vec_capacity opened) }
+        ensures { IfOk result (λ world. world ≡ fresh_world setup.now payload.items room) }
+    {
+        let paths = all_up(alloc, setup.links)?;
+        let a = Host::new(alloc, Side::A, setup)?;
+        let b = Host::new(alloc, Side::B, setup)?;
         Ok(World {
             setup: *setup,
             payload,
             room,
-            history: with_room(alloc, room.entries)?,
-            heard: with_room(alloc, room.bytes)?,
-            a: Host::new(alloc, Side::A, setup)?,
-            b: Host::new(alloc, Side::B, setup)?,
-            opened: with_room(alloc, room.entries)?,
+            history,
+            heard,
+            a,
+            b,
+            opened,
+            paths,
         })
     }
 
@@ -190,31 +155,13 @@ impl World {
         }
     }
 
-    /// What the next event finds.
-    fn moment(&self) -> Moment<'_>
-        ensures setup { result.setup.now ≡ self.now.setup }
-        ensures payload { result.payload.now ≡ self.now.payload }
-        ensures history { result.history.now ≡ self.now.history }
-        ensures heard { result.heard ≡ length self.now.heard }
-    {
-        Moment {
-            setup: &self.setup,
-            payload: &self.payload,
-            history: &self.history,
-            heard: self.heard.len() as u32,
-        }
-    }
-
     /// How many bytes an event would hand out.
     fn due(&self, event: Event) -> u32
         requires fits { Fits self.now.setup (length self.now.payload) event }
         ensures { result ≡ handed (told_by self.now event) }
     {
         match event {
-            Event::Read { end, len } => match end.side {
-                Side::A => due_bytes(&self.a, &self.b, self.moment(), end, len),
-                Side::B => due_bytes(&self.b, &self.a, self.moment(), end, len),
-            },
+            Event::Read { end, len } => due_on(&self.a, &self.b, end, len),
             _ => 0,
         }
     }
@@ -264,6 +211,7 @@ impl World {
             setup: &self.setup,
             payload: &self.payload,
             history: &self.history,
+            paths: &self.paths,
             heard: self.heard.len() as u32,
         };
         let reply = act(
@@ -304,25 +252,25 @@ impl World {
         ensures first { result ≡ find (λ event. does_something (told_by self.now event)) (flat_map slot_events (up_to self.now.setup.links)) }
         ensures fits { IfSome result (Fits self.now.setup (length self.now.payload)) }
     {
-        if self.a.wire.can_land() {
+        if can_land(&self.a.wires, 1) {
             return Some(Event::Deliver {
                 slot: 1,
                 dir: Side::A,
             });
         }
-        if self.b.wire.can_land() {
+        if can_land(&self.b.wires, 1) {
             return Some(Event::Deliver {
                 slot: 1,
                 dir: Side::B,
             });
         }
-        if self.a.wire.can_complete() {
+        if can_complete(&self.a.wires, 1) {
             return Some(Event::Complete {
                 slot: 1,
                 dir: Side::A,
             });
         }
-        if self.b.wire.can_complete() {
+        if can_complete(&self.b.wires, 1) {
             return Some(Event::Complete {
                 slot: 1,
                 dir: Side::B,
@@ -374,8 +322,8 @@ impl World {
         ensures { result ≡ does_something (told_by self.now (Clc s dir)) }
     {
         match dir {
-            Side::A => would_take(&self.b, &self.a, s),
-            Side::B => would_take(&self.a, &self.b, s),
+            Side::A => would_take(&self.b, &self.a, s, &self.paths),
+            Side::B => would_take(&self.a, &self.b, s, &self.paths),
         }
     }
 

@@ -2,7 +2,7 @@ use Rattle.std.proofs.Common.{◌∙◌, ◌++◌, ◌+◌, length, refl, sym, a
 use Rattle.smc_num.specs.declared.Side.TheVariants.{A}
 use Rattle.pipe_model.specs.declared.event.Event.TheVariants.{Open}
 use Rattle.side_core.specs.Landing.{opening_posts}
-use Rattle.world_core.specs.Hosts.{past_of, with_posts}
+use Rattle.world_core.specs.Hosts.{past_of, with_posts, wire_at}
 use Rattle.world_core.specs.Sending.{carried_from, puts_all}
 use Rattle.world_core.proofs.HostsOn.{plays-at, few-past, number-past}
 use Rattle.world_core.proofs.OpeningsAfter.{socket-at-client, socket-at-server, none-at-server, used-before, fallen-back, begun, not-both, first-fails}
@@ -64,5 +64,5 @@ returns-then-b c =
     (sym c.is_opened.ensures ∙ c.if-is_opened.false) (and-true _ _ c.if-a.true c.if-b.true) c.open-then-b.new.posts.items
     (c.open-then-b.ensures.posts ∙ ap (λ ps. ps ++ opening_posts c.args.s c.args.server.now.core.desk) (c.open.ensures.posts ∙ ap (λ ps. ps ++ opening_posts c.args.s c.args.client.now.core.desk) c.requires.none))
     _ (number-past at) c.open.new.self _ _ c.open.ensures.side c.send.ensures.core
-    (λ m st. c.send.ensures.wire m st ∙ ap (λ ps. with_posts (carried_from m (length at.history.now + 1) 1 ps) c.args.client.now.wire) c.as_slice.ensures.value)
+    (λ m st. c.send.ensures.wire m st ∙ ap (λ ps. with_posts (carried_from m (length at.history.now + 1) 1 ps) (wire_at 1 c.args.client.now)) c.as_slice.ensures.value)
     (c.send.ensures.flows ∙ ap (λ ps. puts_all ps c.args.client.now.flows.items) c.as_slice.ensures.value) c.open-then-b.ensures.side refl refl)

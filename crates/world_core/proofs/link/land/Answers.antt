@@ -1,14 +1,18 @@
-use Rattle.world_core.proofs.LandingCases.{write-from, cdc-from, llc-from, not-clc}
+use Rattle.std.proofs.Common.{List, subst, sym}
+use Rattle.pipe_model.specs.declared.event.Event.TheVariants.{Deliver}
+use Rattle.pipe_model.specs.declared.post.Post.{Post}
+use Rattle.pipe_model.specs.declared.reply.Reply.TheVariants.{Landed}
+use Rattle.world_core.specs.Hosts.{IsPlayedBy}
+use Rattle.world_core.proofs.LandingCases.{not-clc}
 use Rattle.world_core.proofs.link.land.Goals as goal
 
-pub land_write-requires-clause-post : goal.land_write-requires-clause-post
-land_write-requires-clause-post c = write-from c.args.moment c.args.dir c.args.landed c.args.own.now c.args.theirs.now c.requires.landed c.requires.few c.in-Write.from c.in-Write.link c.in-Write.key c.in-Write.address c.in-Write.len c.in-Write.is
-
-pub land_cdc-requires-clause-post : goal.land_cdc-requires-clause-post
-land_cdc-requires-clause-post c = cdc-from c.args.moment c.args.dir c.args.landed c.args.own.now c.args.theirs.now c.requires.landed c.requires.few c.in-Cdc.from c.in-Cdc.link c.in-Cdc.message c.in-Cdc.is
-
-pub land_llc-requires-clause-post : goal.land_llc-requires-clause-post
-land_llc-requires-clause-post c = llc-from c.args.moment c.args.dir c.args.landed c.args.own.now c.args.theirs.now c.requires.landed c.requires.few c.in-Llc.from c.in-Llc.link c.in-Llc.message c.in-Llc.is
-
 pub unreachable-requires : goal.unreachable-requires
-unreachable-requires c = not-clc c.args.moment c.args.dir c.args.landed c.args.own.now c.args.theirs.now c.requires.landed c.requires.few c.in-Clc.from c.in-Clc.s c.in-Clc.link c.in-Clc.message c.in-Clc.is
+unreachable-requires c = not-clc c.args.moment c.requires.landed.0 c.args.landed c.args.own.now c.args.theirs.now c.requires.landed.1 c.requires.few c.in-Clc.from c.in-Clc.s c.in-Clc.link c.in-Clc.message c.in-Clc.is
+
+pub returns-in-Write : goal.returns-in-Write
+returns-in-Write c = λ x landed.
+    let at = c.args.landed.at in
+    subst (λ (ps : List Post). IsPlayedBy c.args.moment (Deliver 1 x) (Landed at) ps x c.args.own.now c.land_write.new.theirs) (sym c.requires.none) (c.land_write.ensures c.args.moment x landed c.requires.few)
+
+pub returns-in-Cdc : goal.returns-in-Cdc
+returns-in-Cdc c = λ x landed. c.land_cdc.ensures x c.args.own.now landed

@@ -7,66 +7,70 @@ use Rattle.rc_link.specs.Wire.{room_of}
 use Rattle.side_core.specs.Acting.{confirms_link, confirming_posts}
 use Rattle.side_core.specs.Manager.{StandsFor}
 use Rattle.world_core.specs.Sending.{goes_on_wire, puts_all, carried_from, MaySendAll}
-use Rattle.world_core.specs.Hosts.{with_posts}
+use Rattle.world_core.specs.Hosts.{with_posts, wire_at}
+use Rattle.world_core.proofs.LandingCases.{some-llc, llc-from}
 use Rattle.world_core.proofs.LandingMessages.{Their, theirs-stand, llc-taken, posts-may-go, posts-fit, message-lands}
 use Rattle.world_core.proofs.link.land_llc.Goals as goal
 
+pub unreachable-requires : goal.unreachable-requires
+unreachable-requires c = some-llc c.args.landed.post c.requires.message c.in_default.not-Llc
+
 pub land_llc-requires-clause-may : goal.land_llc-requires-clause-may
 land_llc-requires-clause-may c =
-    let d = llc-taken c.args.moment c.args.dir c.args.landed c.args.own.now c.args.theirs.now c.requires.landed c.requires.few c.args.link c.args.message.now c.requires.post in
+    let d = llc-taken c.args.moment c.requires.landed.0 c.args.landed c.args.own.now c.args.theirs.now c.requires.landed.1 c.requires.few c.in-Llc.link c.in-Llc.message (llc-from c.args.moment c.requires.landed.0 c.args.landed c.args.own.now c.args.theirs.now c.requires.landed.1 c.requires.few c.in-Llc.from c.in-Llc.link c.in-Llc.message c.in-Llc.is) in
     d.may _
 
 pub land_llc-requires-clause-sound : goal.land_llc-requires-clause-sound
 land_llc-requires-clause-sound c =
-    let d = llc-taken c.args.moment c.args.dir c.args.landed c.args.own.now c.args.theirs.now c.requires.landed c.requires.few c.args.link c.args.message.now c.requires.post in
+    let d = llc-taken c.args.moment c.requires.landed.0 c.args.landed c.args.own.now c.args.theirs.now c.requires.landed.1 c.requires.few c.in-Llc.link c.in-Llc.message (llc-from c.args.moment c.requires.landed.0 c.args.landed c.args.own.now c.args.theirs.now c.requires.landed.1 c.requires.few c.in-Llc.from c.in-Llc.link c.in-Llc.message c.in-Llc.is) in
     d.sound
 
 pub send-requires-clause-may : goal.send-requires-clause-may
 send-requires-clause-may c =
-    let d = llc-taken c.args.moment c.args.dir c.args.landed c.args.own.now c.args.theirs.now c.requires.landed c.requires.few c.args.link c.args.message.now c.requires.post in
+    let d = llc-taken c.args.moment c.requires.landed.0 c.args.landed c.args.own.now c.args.theirs.now c.requires.landed.1 c.requires.few c.in-Llc.link c.in-Llc.message (llc-from c.args.moment c.requires.landed.0 c.args.landed c.args.own.now c.args.theirs.now c.requires.landed.1 c.requires.few c.in-Llc.from c.in-Llc.link c.in-Llc.message c.in-Llc.is) in
     let did = c.land_llc.ensures in
     let slice = c.as_slice.ensures in
-    let was = Their c.args.moment c.args.dir c.args.landed c.args.own.now c.args.theirs.now c.requires.landed c.requires.few in
-    let stood = theirs-stand c.args.moment c.args.dir c.args.landed c.args.own.now c.args.theirs.now c.requires.landed c.requires.few in
+    let was = Their c.args.moment c.requires.landed.0 c.args.landed c.args.own.now c.args.theirs.now c.requires.landed.1 c.requires.few in
+    let stood = theirs-stand c.args.moment c.requires.landed.0 c.args.landed c.args.own.now c.args.theirs.now c.requires.landed.1 c.requires.few in
     let step = did.step ∙ d.step _ in
     let due = did.posts was stood
-    ∙ (ap (λ (ps : List Post). ps ++ confirming_posts c.land_llc.result c.args.link was) c.requires.none
-    ∙ (ap (λ (r : FlowStep). confirming_posts r c.args.link was) step ∙ ap (λ (l : LinkId). confirming_posts (Live d.reply true) l was) d.link_is)) in
+    ∙ (ap (λ (ps : List Post). ps ++ confirming_posts c.land_llc.result c.in-Llc.link was) c.requires.none
+    ∙ (ap (λ (r : FlowStep). confirming_posts r c.in-Llc.link was) step ∙ ap (λ (l : LinkId). confirming_posts (Live d.reply true) l was) d.link_is)) in
     let acted = subst (λ (l : LinkId). StandsFor c.land_llc.new.self (confirms_link (Live d.reply true) l was)) d.link_is
-    (subst (λ (r : FlowStep). StandsFor c.land_llc.new.self (confirms_link r c.args.link was)) step (did.side was stood)) in
+    (subst (λ (r : FlowStep). StandsFor c.land_llc.new.self (confirms_link r c.in-Llc.link was)) step (did.side was stood)) in
     subst (λ (ps : List Post). MaySendAll (length c.args.theirs.now.flows.items) c.land_llc.new.self ps) (sym slice.value)
-    (posts-may-go c.args.moment c.args.dir c.args.landed c.args.own.now c.args.theirs.now c.requires.landed c.requires.few _ _ _ d.taking d.told c.land_llc.new.self c.land_llc.new.posts.items due acted)
+    (posts-may-go c.args.moment c.requires.landed.0 c.args.landed c.args.own.now c.args.theirs.now c.requires.landed.1 c.requires.few _ _ _ d.taking d.told c.land_llc.new.self c.land_llc.new.posts.items due acted)
 
 pub send-requires-clause-room : goal.send-requires-clause-room
 send-requires-clause-room c =
-    let d = llc-taken c.args.moment c.args.dir c.args.landed c.args.own.now c.args.theirs.now c.requires.landed c.requires.few c.args.link c.args.message.now c.requires.post in
+    let d = llc-taken c.args.moment c.requires.landed.0 c.args.landed c.args.own.now c.args.theirs.now c.requires.landed.1 c.requires.few c.in-Llc.link c.in-Llc.message (llc-from c.args.moment c.requires.landed.0 c.args.landed c.args.own.now c.args.theirs.now c.requires.landed.1 c.requires.few c.in-Llc.from c.in-Llc.link c.in-Llc.message c.in-Llc.is) in
     let did = c.land_llc.ensures in
     let slice = c.as_slice.ensures in
-    let was = Their c.args.moment c.args.dir c.args.landed c.args.own.now c.args.theirs.now c.requires.landed c.requires.few in
-    let stood = theirs-stand c.args.moment c.args.dir c.args.landed c.args.own.now c.args.theirs.now c.requires.landed c.requires.few in
+    let was = Their c.args.moment c.requires.landed.0 c.args.landed c.args.own.now c.args.theirs.now c.requires.landed.1 c.requires.few in
+    let stood = theirs-stand c.args.moment c.requires.landed.0 c.args.landed c.args.own.now c.args.theirs.now c.requires.landed.1 c.requires.few in
     let step = did.step ∙ d.step _ in
     let due = did.posts was stood
-    ∙ (ap (λ (ps : List Post). ps ++ confirming_posts c.land_llc.result c.args.link was) c.requires.none
-    ∙ (ap (λ (r : FlowStep). confirming_posts r c.args.link was) step ∙ ap (λ (l : LinkId). confirming_posts (Live d.reply true) l was) d.link_is)) in
+    ∙ (ap (λ (ps : List Post). ps ++ confirming_posts c.land_llc.result c.in-Llc.link was) c.requires.none
+    ∙ (ap (λ (r : FlowStep). confirming_posts r c.in-Llc.link was) step ∙ ap (λ (l : LinkId). confirming_posts (Live d.reply true) l was) d.link_is)) in
     let acted = subst (λ (l : LinkId). StandsFor c.land_llc.new.self (confirms_link (Live d.reply true) l was)) d.link_is
-    (subst (λ (r : FlowStep). StandsFor c.land_llc.new.self (confirms_link r c.args.link was)) step (did.side was stood)) in
-    subst (λ (ps : List Post). length (filter goes_on_wire ps) ≤ room_of c.args.theirs.now.wire) (sym slice.value)
-    (posts-fit c.args.moment c.args.dir c.args.landed c.args.own.now c.args.theirs.now c.requires.landed c.requires.few _ _ _ d.taking d.told c.land_llc.new.self c.land_llc.new.posts.items due acted)
+    (subst (λ (r : FlowStep). StandsFor c.land_llc.new.self (confirms_link r c.in-Llc.link was)) step (did.side was stood)) in
+    subst (λ (ps : List Post). length (filter goes_on_wire ps) ≤ room_of (wire_at 1 c.args.theirs.now)) (sym slice.value)
+    (posts-fit c.args.moment c.requires.landed.0 c.args.landed c.args.own.now c.args.theirs.now c.requires.landed.1 c.requires.few _ _ _ d.taking d.told c.land_llc.new.self c.land_llc.new.posts.items due acted)
 
 pub returns : goal.returns
-returns c =
-    let d = llc-taken c.args.moment c.args.dir c.args.landed c.args.own.now c.args.theirs.now c.requires.landed c.requires.few c.args.link c.args.message.now c.requires.post in
+returns c = λ x landed.
+    let d = llc-taken c.args.moment x c.args.landed c.args.own.now c.args.theirs.now landed c.requires.few c.in-Llc.link c.in-Llc.message (llc-from c.args.moment x c.args.landed c.args.own.now c.args.theirs.now landed c.requires.few c.in-Llc.from c.in-Llc.link c.in-Llc.message c.in-Llc.is) in
     let did = c.land_llc.ensures in
     let slice = c.as_slice.ensures in
-    let was = Their c.args.moment c.args.dir c.args.landed c.args.own.now c.args.theirs.now c.requires.landed c.requires.few in
-    let stood = theirs-stand c.args.moment c.args.dir c.args.landed c.args.own.now c.args.theirs.now c.requires.landed c.requires.few in
+    let was = Their c.args.moment x c.args.landed c.args.own.now c.args.theirs.now landed c.requires.few in
+    let stood = theirs-stand c.args.moment x c.args.landed c.args.own.now c.args.theirs.now landed c.requires.few in
     let step = did.step ∙ d.step _ in
     let due = did.posts was stood
-    ∙ (ap (λ (ps : List Post). ps ++ confirming_posts c.land_llc.result c.args.link was) c.requires.none
-    ∙ (ap (λ (r : FlowStep). confirming_posts r c.args.link was) step ∙ ap (λ (l : LinkId). confirming_posts (Live d.reply true) l was) d.link_is)) in
+    ∙ (ap (λ (ps : List Post). ps ++ confirming_posts c.land_llc.result c.in-Llc.link was) c.requires.none
+    ∙ (ap (λ (r : FlowStep). confirming_posts r c.in-Llc.link was) step ∙ ap (λ (l : LinkId). confirming_posts (Live d.reply true) l was) d.link_is)) in
     let acted = subst (λ (l : LinkId). StandsFor c.land_llc.new.self (confirms_link (Live d.reply true) l was)) d.link_is
-    (subst (λ (r : FlowStep). StandsFor c.land_llc.new.self (confirms_link r c.args.link was)) step (did.side was stood)) in
+    (subst (λ (r : FlowStep). StandsFor c.land_llc.new.self (confirms_link r c.in-Llc.link was)) step (did.side was stood)) in
     let sent = c.send.ensures in
-    message-lands c.args.moment c.args.dir c.args.landed c.args.own.now c.args.theirs.now c.requires.landed c.requires.few _ _ _ d.taking d.told c.land_llc.new.self c.land_llc.new.posts.items due acted d.own_stands c.send.new.self (length c.args.moment.history.now + 1) refl sent.core
-    (λ n stands. sent.wire n stands ∙ ap (λ (ps : List Post). with_posts (carried_from n (length c.args.moment.history.now + 1) 1 ps) c.args.theirs.now.wire) slice.value)
+    message-lands c.args.moment x c.args.landed c.args.own.now c.args.theirs.now landed c.requires.few _ _ _ d.taking d.told c.land_llc.new.self c.land_llc.new.posts.items due acted d.own_stands c.send.new.self (length c.args.moment.history.now + 1) refl sent.core
+    (λ n stands. sent.wire n stands ∙ ap (λ (ps : List Post). with_posts (carried_from n (length c.args.moment.history.now + 1) 1 ps) (wire_at 1 c.args.theirs.now)) slice.value)
     (sent.flows ∙ ap (λ (ps : List Post). puts_all ps c.args.theirs.now.flows.items) slice.value)

@@ -1,17 +1,41 @@
-use Rattle.std.proofs.Common.{◌∙◌, sym}
-use Rattle.world_core.proofs.LandingCases.{some-follows, may-go, may-write, write-lands}
+use Rattle.std.proofs.Common.{◌∙◌, ap, map, sym}
+use Rattle.rc_link.specs.declared.Carried.{Carried}
+use Rattle.rc_link.specs.Wire.{next_cdc}
+use Rattle.world_core.specs.Hosts.{wire_at}
+use Rattle.world_core.proofs.LandingCases.{some-write, write-from, on-slot, some-follows, may-go, may-write, write-lands}
 use Rattle.world_core.proofs.link.land_write.Goals as goal
 
 pub unreachable-requires : goal.unreachable-requires
-unreachable-requires c = some-follows c.args.moment c.args.dir c.args.landed c.args.own.now c.args.theirs.now c.requires.landed c.requires.few c.args.link c.args.key c.args.address c.args.len c.requires.post (sym c.next_cdc.ensures ∙ c.in_default.is)
+unreachable-requires c = some-write c.args.landed.post c.requires.write c.in_default.not-Write
+
+pub unreachable-requires-in_default-next_cdc : goal.unreachable-requires-in_default-next_cdc
+unreachable-requires-in_default-next_cdc c =
+    let l = c.requires.landed in
+    some-follows l.0 l.1 c.args.landed c.args.own.now c.args.theirs.now l.2 l.3 c.in-Write.link c.in-Write.key c.in-Write.address c.in-Write.len (write-from l.0 l.1 c.args.landed c.args.own.now c.args.theirs.now l.2 l.3 c.in-Write.from c.in-Write.link c.in-Write.key c.in-Write.address c.in-Write.len c.in-Write.is)
+    (ap (λ k. next_cdc (map (λ (d : Carried). d.post) (wire_at k c.args.own.now).waiting)) (sym (on-slot l.0 l.1 c.args.landed c.args.own.now c.args.theirs.now l.2 l.3 c.in-Write.link c.in-Write.key c.in-Write.address c.in-Write.len (write-from l.0 l.1 c.args.landed c.args.own.now c.args.theirs.now l.2 l.3 c.in-Write.from c.in-Write.link c.in-Write.key c.in-Write.address c.in-Write.len c.in-Write.is)))
+    ∙ (sym c.next_cdc.ensures ∙ c.in_default-next_cdc.is))
 
 pub outgoing-requires : goal.outgoing-requires
-outgoing-requires c = may-go c.args.moment c.args.dir c.args.landed c.args.own.now c.args.theirs.now c.requires.landed c.requires.few c.args.link c.args.key c.args.address c.args.len c.requires.post c.in-Some.message (sym c.next_cdc.ensures ∙ c.in-Some.is)
+outgoing-requires c =
+    let l = c.requires.landed in
+    may-go l.0 l.1 c.args.landed c.args.own.now c.args.theirs.now l.2 l.3 c.in-Write.link c.in-Write.key c.in-Write.address c.in-Write.len (write-from l.0 l.1 c.args.landed c.args.own.now c.args.theirs.now l.2 l.3 c.in-Write.from c.in-Write.link c.in-Write.key c.in-Write.address c.in-Write.len c.in-Write.is)
+    c.in-Some.message
+    (ap (λ k. next_cdc (map (λ (d : Carried). d.post) (wire_at k c.args.own.now).waiting)) (sym (on-slot l.0 l.1 c.args.landed c.args.own.now c.args.theirs.now l.2 l.3 c.in-Write.link c.in-Write.key c.in-Write.address c.in-Write.len (write-from l.0 l.1 c.args.landed c.args.own.now c.args.theirs.now l.2 l.3 c.in-Write.from c.in-Write.link c.in-Write.key c.in-Write.address c.in-Write.len c.in-Write.is)))
+    ∙ (sym c.next_cdc.ensures ∙ c.in-Some.is))
 
 pub land_write-requires : goal.land_write-requires
-land_write-requires c = may-write c.args.moment c.args.dir c.args.landed c.args.own.now c.args.theirs.now c.requires.landed c.requires.few c.args.link c.args.key c.args.address c.args.len c.requires.post c.in-Some.message (sym c.next_cdc.ensures ∙ c.in-Some.is) c.outgoing.result.0.now c.outgoing.result.1.now c.outgoing.ensures
+land_write-requires c =
+    let l = c.requires.landed in
+    may-write l.0 l.1 c.args.landed c.args.own.now c.args.theirs.now l.2 l.3 c.in-Write.link c.in-Write.key c.in-Write.address c.in-Write.len (write-from l.0 l.1 c.args.landed c.args.own.now c.args.theirs.now l.2 l.3 c.in-Write.from c.in-Write.link c.in-Write.key c.in-Write.address c.in-Write.len c.in-Write.is)
+    c.in-Some.message
+    (ap (λ k. next_cdc (map (λ (d : Carried). d.post) (wire_at k c.args.own.now).waiting)) (sym (on-slot l.0 l.1 c.args.landed c.args.own.now c.args.theirs.now l.2 l.3 c.in-Write.link c.in-Write.key c.in-Write.address c.in-Write.len (write-from l.0 l.1 c.args.landed c.args.own.now c.args.theirs.now l.2 l.3 c.in-Write.from c.in-Write.link c.in-Write.key c.in-Write.address c.in-Write.len c.in-Write.is)))
+    ∙ (sym c.next_cdc.ensures ∙ c.in-Some.is))
+    c.outgoing.result.0.now c.outgoing.result.1.now c.outgoing.ensures
 
 pub returns : goal.returns
-returns c =
-    write-lands c.args.moment c.args.dir c.args.landed c.args.own.now c.args.theirs.now c.requires.landed c.requires.few c.args.link c.args.key c.args.address c.args.len c.requires.post c.in-Some.message (sym c.next_cdc.ensures ∙ c.in-Some.is) c.outgoing.result.0.now c.outgoing.result.1.now c.outgoing.ensures
-    c.land_write.new.self c.land_write.ensures
+returns c = λ at x landed few.
+    write-lands at x c.args.landed c.args.own.now c.args.theirs.now landed few c.in-Write.link c.in-Write.key c.in-Write.address c.in-Write.len (write-from at x c.args.landed c.args.own.now c.args.theirs.now landed few c.in-Write.from c.in-Write.link c.in-Write.key c.in-Write.address c.in-Write.len c.in-Write.is)
+    c.in-Some.message
+    (ap (λ k. next_cdc (map (λ (d : Carried). d.post) (wire_at k c.args.own.now).waiting)) (sym (on-slot at x c.args.landed c.args.own.now c.args.theirs.now landed few c.in-Write.link c.in-Write.key c.in-Write.address c.in-Write.len (write-from at x c.args.landed c.args.own.now c.args.theirs.now landed few c.in-Write.from c.in-Write.link c.in-Write.key c.in-Write.address c.in-Write.len c.in-Write.is)))
+    ∙ (sym c.next_cdc.ensures ∙ c.in-Some.is))
+    c.outgoing.result.0.now c.outgoing.result.1.now c.outgoing.ensures c.land_write.new.self c.land_write.ensures

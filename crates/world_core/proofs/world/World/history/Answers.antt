@@ -9,4 +9,4 @@ pub returns-clause-lawful : goal.returns-clause-lawful
 returns-clause-lawful c =
     let v = c.self.inside in
     let w : Seen = record { setup = v.setup; payload = v.payload.items; room = v.room; history = v.history.items; heard = v.heard.items } in
-    subst (λ (u : Seen). IsLawful u.setup u.payload u.history u.heard) c.self.view_is (history_is_lawful w (world_is_lawful w v.a v.b v.opened.items _ _ _ c.self.invariant))
+    subst (λ (u : Seen). IsLawful u.setup u.payload u.history u.heard) c.self.view_is (history_is_lawful w (world_is_lawful w v.a v.b v.opened.items v.paths.items _ _ _ c.self.invariant))

@@ -1,6 +1,6 @@
 use Rattle.std.proofs.Common.{◌≡◌, ◌≤◌, replicate, vec_capacity}
 use Rattle.world_core.specs.Sending.{still}
-use Rattle.world_core.proofs.host.no_flows.Given as goal
+use Rattle.world_core.proofs.host.add_flows.Given as goal
 
 -- so many sockets are still, and the list has room for all
 abbrev pub invariant-loop-socket : goal.invariant-loop-socket
