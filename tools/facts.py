@@ -122,6 +122,8 @@ class Facts:
         self.lendings = []
         self.ends = {}  # by name
         self.streams = {}  # by (socket, sender), the CLC messages that were not taken
+        self.entries = []
+        self.posts = []
         self.fates = {}  # by the name of a post
         self.opened = {}  # by socket, the entry
 
@@ -129,12 +131,12 @@ class Facts:
 
     def take(self, entry):
         self.count = entry.number
-        self.entry = entry
+        self.entries.append(entry)
         after = getattr(self, "after_" + entry.words[0], self.after_call)
         after(entry, *entry.words[1:])
         for post in entry.posts:
+            self.posts.append(post)
             getattr(self, "posted_" + post.kind)(post)
-        return self
 
     def after_open(self, entry, socket):
         if entry.reply == "name used":
@@ -391,6 +393,11 @@ class Facts:
     def lent(self, side):
         """The elements of a side that are lent now."""
         return [each for each in self.lendings if each.side == side and not each.ended]
+
+    def lending_ended(self, end):
+        """The entry at which an end's element was given back, 0 where it was not."""
+        mine = [each.ended for each in self.lendings if (each.side, each.socket) == (end.side, end.socket)]
+        return mine[-1] if mine else 0
 
     def end_told_by(self, post):
         """The end whose token a CDC message names."""

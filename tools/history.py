@@ -58,8 +58,15 @@ SPENT = re.compile(rf"spent (?:entries|bytes) {NUMBER}")
 REFUSED = re.compile(r"line [0-9]+: [a-z ]+|too long|usage: .*")
 
 
-class NoHistory(Exception):
+class Refused(Exception):
+    """Why a script does not do what it was asked."""
+
+
+class NoHistory(Refused):
     """Why a text is no history."""
+
+    def __str__(self):
+        return f"no history: {self.args[0]}"
 
 
 @dataclass(frozen=True)
@@ -214,17 +221,20 @@ def read_history(text):
     return History(entries, lines[at:])
 
 
-def history_in(path):
-    """The history in a file, or at standard input where no file is named."""
+def bytes_in(path):
+    """What a file holds, or standard input where no file is named."""
     try:
         if path is None:
-            data = sys.stdin.buffer.read()
-        else:
-            with open(path, "rb") as file:
-                data = file.read()
+            return sys.stdin.buffer.read()
+        with open(path, "rb") as file:
+            return file.read()
     except OSError as fault:
-        raise NoHistory(f"{path}: {fault.strerror}") from fault
-    return read_history(data.decode("latin-1"))
+        raise Refused(f"{path}: {fault.strerror}") from fault
+
+
+def history_in(path):
+    """The history in a file, or at standard input where no file is named."""
+    return read_history(bytes_in(path).decode("latin-1"))
 
 
 def run(main):
@@ -232,5 +242,5 @@ def run(main):
     signal.signal(signal.SIGPIPE, signal.SIG_DFL)
     try:
         main()
-    except NoHistory as fault:
-        sys.exit(f"no history: {fault}")
+    except Refused as fault:
+        sys.exit(str(fault))
