@@ -13,7 +13,7 @@ use Rattle.history_laws.specs.Words.{A, Act, B, BadClc, BadStep, ClcMessage, Dea
 use Rattle.history_laws.proofs.Basics.{by-bool, none-is, or-left, or-true, some-is, some-live}
 use Rattle.history_laws.proofs.Offers.{Answers, ByVerdict, ForFault, NotTaken, accept-is, accept-step, accepts-in, all-offers, answers, front-in, kept, new-or-old, of-entry, proposal-step, sends-accept, state-early, state-up, states}
 use Rattle.history_laws.specs.Offers.{HasOffers, HasStates, NewLending, Offers, OffersAccept, OffersConfirm, OffersNone, accept_link, confirm_reply, is_none, is_own_state}
-use Rattle.history_laws.specs.Made.{IsMadeAll, IsMadeAny}
+use Rattle.history_laws.specs.Made.{IsMadeAll, IsMade}
 use Rattle.history_laws.specs.Lists.{IsAmong}
 use Rattle.link_laws.proofs.Sound.{at-stands, has-group, link-self, set-here, set-link, stands-at}
 use Rattle.link_laws.specs.Linked.{AreLinked, AreTogether, Begins, Confirms, Goes, HasNone, IsOwn, IsSound, Under, phases, slot_fits}
@@ -125,7 +125,7 @@ same-first setup payload (e ∷ past) m s o p i j = by m.0.0 m.0.1 (same-first s
     offs : (t : ℕ) → HasOffers t past
     offs = all-offers setup payload past m.1
 
-    by : (before : ℕ) → IsMadeAny setup payload past before e → ((p : Offered) → offered A s past ≡ Some o → offered B s past ≡ Some p → p.offer.first ≡ o.offer.first) → p.offer.first ≡ o.offer.first
+    by : (before : ℕ) → IsMade setup payload past before e → ((p : Offered) → offered A s past ≡ Some o → offered B s past ≡ Some p → p.offer.first ≡ o.offer.first) → p.offer.first ≡ o.offer.first
     by before made was = at (new-or-old setup payload past before e made (states setup payload past m.1) offs A s)
       where
         b-is : (t : ℕ) (q : Offered) → s ≡ t → offered B t past ≡ Some q → p ≡ q

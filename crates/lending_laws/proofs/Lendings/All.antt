@@ -9,7 +9,7 @@ use Rattle.pipe_model.specs.declared.reply.Reply.TheVariants.{Sent}
 use Rattle.pipe_model.specs.declared.reply.SentKind.TheVariants.{ConfirmLink as LinkSent}
 use Rattle.pipe_model.specs.Connections.{comes_up}
 use Rattle.history_laws.specs.Words.{A, B, ClcFault, ClcMessage, EndState, Entry, Established, Faulty, HasFallen, RelendsOnlyDone, IsUp, Lending, LinkId, Lost, NoEnd, Offer, Offered, Ready, Setup, Side, WaitsAnswer, WaitsConfirm, WaitsLink, WaitsProposal, WasReset, after_clc, after_event, after_loss, early_state, element_size, end_state, expects, front, front_of, gives_up, group_of, group_on, half, has_ended, head, is_opened, is_out, is_over, is_raw, is_up, lacks, lendings, lends_by, lent, loses_group_with, new_offer, offered, other, part, pipe_of, step_told, stream, terms_of, untaken, verdict}
-use Rattle.history_laws.specs.Made.{IsMadeAll, IsMadeAny}
+use Rattle.history_laws.specs.Made.{IsMadeAll, IsMade}
 use Rattle.history_laws.specs.Offers.{HasOffers, HasStates, HasStream, IsProposed, NewLending, NoProposal, is_early, is_none}
 use Rattle.history_laws.proofs.Offers.{Answers, ByVerdict, Does, DoesBegin, DoesNothing, DoesTake, ForFault, NotTaken, all-offers, answers, does, front-in, new-or-old, not-none, opens-new, state-early, state-up, states, taken-as}
 use Rattle.history_laws.proofs.Basics.{by-bool, none-is, or-left, or-none, or-parts, or-true, some-is}
@@ -52,7 +52,7 @@ no-fault payload d s past fault r f = by (untaken d s past) (sym (ap (λ b. fron
     by (n ∷ ms) g = cc
 
 module _ (setup : Setup) (payload : List ℕ) (e : Entry) (past : List Entry) (m : IsMadeAll setup payload (e ∷ past)) (with_it : OwedWith e past) (w : OwedLendings setup payload past) (s : ℕ) (h : HasStream s past) where
-  abbrev one : (before : ℕ) × IsMadeAny setup payload past before e
+  abbrev one : (before : ℕ) × IsMade setup payload past before e
   one = m.0
 
   abbrev st : HasStates s past

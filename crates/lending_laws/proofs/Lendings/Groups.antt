@@ -10,7 +10,7 @@ use Rattle.pipe_model.specs.declared.reply.Reply.TheVariants.{Sent}
 use Rattle.pipe_model.specs.declared.reply.SentKind.TheVariants.{Accept as AcceptSent}
 use Rattle.history_laws.specs.Words.{A, AskKey, B, ClcStep, Decline, Entry, Fabric, GroupLost, Known, Lacks, Lending, LinkId, NoClientElement, NoServerElement, NoSlot, NoSubnet, Offer, Offered, OldGroup, Proposal, SendAccept, SendConfirm, Setup, Side, Wait, WaitsProposal, accept_post, confirm_post, end_state, fabric, fewest, first_contact_step, flow_of, group_of, groups_begun, is_asked, is_deleting, is_first_contact, is_live, is_over_on, is_raw, key_step, lacks, leaves_handshake, lends, lends_by, lent, lighter, lightest, link_now, live_links, load, loses_group_with, named_link, new_offer, no_link, offered, on_accept, on_first_accept, on_later_accept, on_proposal, peer, returns, table_of, verdict}
 use Rattle.history_laws.proofs.Basics.{by-bool, or-none, some-live}
-use Rattle.history_laws.specs.Made.{IsMadeAny}
+use Rattle.history_laws.specs.Made.{IsMade}
 use Rattle.history_laws.specs.Offers.{Accepts, Confirms, HasOffers, HasStates, Offers, OffersAccept, OffersConfirm, OffersNone, accept_link, confirm_reply}
 use Rattle.history_laws.proofs.Offers.{accept-is, accept-new, accepts-in, confirm-new, free-lends-all, of-entry, sends-accept}
 use Rattle.history_laws.specs.Lists.{IsAmong}
@@ -132,7 +132,7 @@ fewest-group setup payload past own g f = by own.sound
     by (ConfirmsContact link n h t) = absurd (true≢false (sym (ap (λ (w : _). is_first_contact w.link) h) ∙ f))
     by (Goes k n live flowing) = lightest-of (group_of B past) (map (link_now setup payload past) (lent setup payload B past)) (live_links (table_of B past)) (live-of (group_of B past) (table_of B past) (own.owned some)) (some-live k (table_of B past) live)
 
-module _ (setup : Setup) (payload : List ℕ) (past : List Entry) (before : ℕ) (e : Entry) (made : IsMadeAny setup payload past before e) (st : (s : ℕ) → HasStates s past) (off : (s : ℕ) → HasOffers s past) (own : IsOwn B (peer B (fabric past)))
+module _ (setup : Setup) (payload : List ℕ) (past : List Entry) (before : ℕ) (e : Entry) (made : IsMade setup payload past before e) (st : (s : ℕ) → HasStates s past) (off : (s : ℕ) → HasOffers s past) (own : IsOwn B (peer B (fabric past)))
     (psn : (s : ℕ) (o : Offered) → offered B s past ≡ Some o → o.offer.psn ≡ o.link.group) (grouped : (s : ℕ) (o : Offered) → offered B s past ≡ Some o → (o.link.group == 0) ≡ false) where
   -- the group of a new lending is its side's after the entry, and not 0
   abbrev GroupFits : (x : Side) → LinkId → Type 0

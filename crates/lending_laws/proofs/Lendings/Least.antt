@@ -9,7 +9,7 @@ use Rattle.pipe_model.specs.declared.flow.FlowStep.TheVariants.{Live}
 use Rattle.pipe_model.specs.Connections.{comes_up}
 use Rattle.history_laws.specs.Words.{A, Act, AskKey, B, ClcMessage, ClcStep, Decline, Declined, EndState, Entry, Established, Event, Fell, FellBack, FlowStep, HasFallen, Held, RelendsOnlyDone, IsUp, Lacks, Lending, LinkId, Lost, NoEnd, Offer, Offered, Open, Opened, Ready, Reply, Reset, SendAccept, SendConfirm, Setup, Side, Wait, WaitsAnswer, WaitsConfirm, WaitsLink, WaitsProposal, WasReset, Whole, Wrong, Wrote, act_in, after_clc, after_event, after_loss, after_raw, clc_step, confirmed_by, early_state, element_size, end_state, expects, front, group_on, has_ended, is_out, is_raw, is_up, lacks, lendings, lends_by, lent, loses_group_with, named_link, new_offer, offered, other, step_told, verdict}
 use Rattle.history_laws.proofs.Offers.{Answers, ByVerdict, ForFault, NotTaken, accept-step, all-offers, answers, confirms-in, front-in, kept, never-waits, new-or-old, proposal-step, sends-confirm, state-early, state-up, states}
-use Rattle.history_laws.specs.Made.{IsMadeAll, IsMadeAny}
+use Rattle.history_laws.specs.Made.{IsMadeAll, IsMade}
 use Rattle.history_laws.specs.Offers.{HasOffers, HasStates, NewLending}
 use Rattle.history_laws.proofs.Basics.{by-bool, none-is}
 use Rattle.history_laws.specs.Lists.{IsAmong}
@@ -84,7 +84,7 @@ abbrev Forward : Reply → Type 0
 Forward r = (r ≡ Established) ⊎ ((r ≡ Sent LinkSent) ⊎ (r ≡ Sent ConfirmSent))
 
 module _ (setup : Setup) (payload : List ℕ) (e : Entry) (past : List Entry) (m : IsMadeAll setup payload (e ∷ past)) (s : ℕ) where
-  abbrev one : (before : ℕ) × IsMadeAny setup payload past before e
+  abbrev one : (before : ℕ) × IsMade setup payload past before e
   one = m.0
 
   abbrev st : HasStates s past

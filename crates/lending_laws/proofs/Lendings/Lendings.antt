@@ -5,7 +5,7 @@ use Rattle.std.specs.Option.{option_or}
 use Rattle.history_laws.specs.Words.{Entry, Lending, Offered, Setup, Side, head, lendings, lends, lends_by, lent, new_offer, offer_in, offered, returns}
 use Rattle.history_laws.specs.Lists.{IsAmong}
 use Rattle.history_laws.proofs.Offers.{all-offers, begins, in-append, in-back, in-front, kept, states}
-use Rattle.history_laws.specs.Made.{IsMadeAll, IsMadeAny}
+use Rattle.history_laws.specs.Made.{IsMadeAll, IsMade}
 use Rattle.history_laws.specs.Offers.{Begins, BeginsNone, BeginsOne, HasOffers, HasStates, NewLending}
 use Rattle.history_laws.proofs.Basics.{by-bool, none-is, not-true, some-is}
 use Rattle.lending_laws.specs.Lendings.{AreCounted, AreLendings, Changes, IsOfOffer}
@@ -52,7 +52,7 @@ token-one (k ∷ ls) c l m (inr i) (inr j) e = token-one ls c.1 l m i j e
 token-one (k ∷ ls) c l m (inl p) (inr j) e = absurd (let few = token-few ls c.1 m j in omega (arith, ap (λ (n : Lending). n.token) p, c.0, e, few))
 token-one (k ∷ ls) c l m (inr i) (inl q) e = absurd (let few = token-few ls c.1 l i in omega (arith, ap (λ (n : Lending). n.token) q, c.0, e, few))
 
-module _ (setup : Setup) (payload : List ℕ) (past : List Entry) (before : ℕ) (e : Entry) (made : IsMadeAny setup payload past before e) (st : (s : ℕ) → HasStates s past) (off : (s : ℕ) → HasOffers s past) (x : Side) where
+module _ (setup : Setup) (payload : List ℕ) (past : List Entry) (before : ℕ) (e : Entry) (made : IsMade setup payload past before e) (st : (s : ℕ) → HasStates s past) (off : (s : ℕ) → HasOffers s past) (x : Side) where
   pub changes : Changes setup payload x e past
   changes = record {
     begins = begins setup payload past before e made st off x;

@@ -21,7 +21,7 @@ use Rattle.history_laws.proofs.Offers.{loss-own}
 use Rattle.link_laws.proofs.Contact.Same.{is_waiting_state, loss-keeps, state-parts}
 use Rattle.link_laws.proofs.Contact.Messages.{beside, early-sender, early-taker, held, offers-across, offers-beside, says-across, says-beside, says-here, stream-taken, stream-taker, up-same}
 use Rattle.link_laws.specs.Linked.{AreLinked, Under, under_in}
-use Rattle.link_laws.specs.Offered.{AreNamed, AreOffered, IsProposed}
+use Rattle.link_laws.specs.Offered.{AreNamed, AreOffered, HasProposal}
 use Rattle.link_laws.specs.Contact.{AreCounted, IsConfirming, IsJoinedFirst, IsOfferedFirst}
 use Rattle.link_laws.proofs.Contact.Changes.{AreLaterOnly, Begins, IsLaterOffer, IsMoved, IsSame, IsStarting, Kind, Moves, Plain, Readies}
 use Rattle.link_laws.proofs.Contact.Elsewhere.{append-none, data-under, moves-same, no-group-begun, offer-by}
@@ -160,7 +160,7 @@ module _ (setup : Setup) (payload : List ℕ) (past : List Entry) (under : Optio
   accepts-later : (raw : Bool) (p : Proposal) → facts.first_contact ≡ false → (facts.group == 0) ≡ false → P raw WaitsProposal (ProposalMessage p) (SendAccept false)
   accepts-later raw p first ne r is ex h pe = to (Sent AcceptSent) _ _ pe (said (Sent AcceptSent) (Some (fewest setup payload past)) (AcceptMessage offer) (ProposalMessage p) WaitsProposal h refl proposal-some is refl refl confirming (refl, tt)
       (λ o e. inr (subst (λ q. IsLaterOffer B q past) (some-is (record { link = fewest setup payload past; offer = offer }) o (sym now ∙ e)) new))
-      (λ r. let was : IsProposed s past = offers.proposed s r is in subst (λ o. AreNamed o (untaken B s past ++ AcceptMessage offer ∷ [])) (sym now) (subst (λ ms. AreNamed (Some (record { link = fewest setup payload past; offer = offer })) (ms ++ AcceptMessage offer ∷ [])) (sym was.untaken_b) ((record { link = fewest setup payload past; offer = offer }, (refl, refl)), tt)))
+      (λ r. let was : HasProposal s past = offers.proposed s r is in subst (λ o. AreNamed o (untaken B s past ++ AcceptMessage offer ∷ [])) (sym now) (subst (λ ms. AreNamed (Some (record { link = fewest setup payload past; offer = offer })) (ms ++ AcceptMessage offer ∷ [])) (sym was.untaken_b) ((record { link = fewest setup payload past; offer = offer }, (refl, refl)), tt)))
       refl refl (data-under rest data_rest) (ap (λ (ps : List Post). groups_begun past + length ps) (begins-nothing rest wired) ∙ omega arith))
     where
       offer : Offer
