@@ -3,13 +3,14 @@ use Rattle.std.proofs.Common.{Bool, List, [], ap, eq-eqb, eqb-true, false, fold,
 use Rattle.std.specs.Prelude.{None, Option, Some, option_and_then, option_map}
 use Rattle.smc_num.specs.declared.LinkPhase.TheVariants.{Live as LiveLink}
 use Rattle.clc_wire.specs.declared.message.ClcMessage.TheVariants.{Accept as AcceptMessage, Confirm as ConfirmMessage, Decline as DeclineMessage, Proposal as ProposalMessage}
+use Rattle.pipe_model.specs.Handshake.{verdict}
 use Rattle.pipe_model.specs.declared.reply.Reply.TheVariants.{Idle, Sent}
 use Rattle.pipe_model.specs.declared.reply.SentKind.TheVariants.{Accept as AcceptSent, Confirm as ConfirmSent, ConfirmLink as LinkSent}
 use Rattle.pipe_model.specs.declared.event.Event.TheVariants.{Clc as ClcEvent}
 use Rattle.pipe_model.specs.Fabric.{does}
 use Rattle.pipe_model.specs.declared.flow.FlowStep.TheVariants.{Live}
 use Rattle.pipe_model.specs.Connections.{comes_up}
-use Rattle.history_laws.specs.Words.{A, Act, B, BadClc, BadStep, ClcMessage, Dead, Declined, EndState, Entry, Established, Fabric, FellBack, FlowStep, HasFallen, Held, IsUp, Lacks, LinkId, LinkPhase, Lost, NoEnd, NoLiveLink, Offer, Offered, Pending, Ready, Reset, SendConfirm, Setup, Side, Unused, WaitsAnswer, WaitsConfirm, WaitsLink, WaitsProposal, WasReset, Whole, Wrong, act_in, confirm_post, confirmed_by, early_state, end_state, fabric, fewest, flow_of, front, group_of, group_on, has_link, is_first_contact, is_first_on, is_raw, is_standing, is_up, lacks, lent, lighter, lightest, link_now, live_links, load, new_offer, offered, on_accept, other, peer, phase_at, same_link, set_phase, stands, step_told, table_of, verdict}
+use Rattle.history_laws.specs.Words.{A, Act, B, BadClc, BadStep, ClcMessage, Dead, Declined, EndState, Entry, Established, Fabric, FellBack, FlowStep, HasFallen, Held, IsUp, Lacks, LinkId, LinkPhase, Lost, NoEnd, NoLiveLink, Offer, Offered, Pending, Ready, Reset, SendConfirm, Setup, Side, Unused, WaitsAnswer, WaitsConfirm, WaitsLink, WaitsProposal, WasReset, Whole, Wrong, act_in, confirm_post, confirmed_by, early_state, end_state, fabric, fewest, flow_of, front, group_of, group_on, has_link, is_first_contact, is_first_on, is_raw, is_standing, is_up, lacks, lent, lighter, lightest, link_now, live_links, load, new_offer, offered, on_accept, other, peer, phase_at, same_link, set_phase, stands, step_told, table_of}
 use Rattle.history_laws.proofs.Basics.{by-bool, none-is, or-left, or-true, some-is, some-live}
 use Rattle.history_laws.proofs.Offers.{Answers, ByVerdict, ForFault, NotTaken, accept-is, accept-step, accepts-in, all-offers, answers, front-in, kept, new-or-old, of-entry, proposal-step, sends-accept, state-early, state-up, states}
 use Rattle.history_laws.specs.Offers.{HasOffers, HasStates, NewLending, Offers, OffersAccept, OffersConfirm, OffersNone, accept_link, confirm_reply, is_none, is_own_state}

@@ -1,11 +1,11 @@
 -- The whole of a side's keys over every history, from what other subjects owe; and the law of bound keys with it.
 use Rattle.std.proofs.Common.{Bool, List, None, Some, [], ap, arith, false, inl, inr, refl, subst, sym, take, true, true≢false, ℕ, ◌∙◌, ◌∷◌, ◌≡◌, ◌≤◌, ◌⊎◌}
 use Rattle.std.specs.Prelude.{Option, filter_map, option_map, unwrap_or}
-use Rattle.pipe_model.specs.Keys.{AreBound, new_key, token_key}
+use Rattle.pipe_model.specs.Keys.{new_key, token_key}
 use Rattle.std.specs.List.{cons_option}
 use Rattle.pipe_model.specs.declared.flow.FlowStep.TheVariants.{Confirmed}
 use Rattle.pipe_model.specs.Fabric.{does}
-use Rattle.history_laws.specs.Words.{A, Act, AddKeys, AddLink, AskLink, B, ConfirmLink, ConfirmRkey, DeleteLink, DeleteRkey, Entry, FlowStep, Key, KeyToken, Known, LinkId, LlcMessage, NewKey, ReplyKeys, Setup, Side, TestLink, act_in, at_slot, book_of, fabric, flow_of, group_of, keys_of, known_rmb, link_at, link_or_none, made_on, named_slot, no_link, other, peer, rmb_at, stands, table_of}
+use Rattle.history_laws.specs.Words.{A, Act, AddKeys, AddLink, AreBound, AskLink, B, ConfirmLink, ConfirmRkey, DeleteLink, DeleteRkey, Entry, FlowStep, Key, KeyToken, Known, LinkId, LlcMessage, NewKey, ReplyKeys, Setup, Side, TestLink, act_in, at_slot, book_of, fabric, flow_of, group_of, keys_of, known_rmb, link_at, link_or_none, made_on, named_slot, no_link, other, peer, rmb_at, stands, table_of}
 use Rattle.history_laws.specs.Lists.{IsAmong}
 use Rattle.history_laws.proofs.Basics.{none-is, some-is}
 use Rattle.link_laws.specs.Linked.{AreLinked, Under}

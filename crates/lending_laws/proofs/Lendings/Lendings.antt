@@ -1,6 +1,6 @@
 -- The lendings of a side: tokens count them, each is that of its socket's one offer; and what is lent changes by returns and offers alone.
 use Rattle.std.proofs.Common.{Bool, List, [], ap, arith, eq-eqb, eqb-true, false, filter, filter_map, if◌then◌else◌, inl, inr, length, not, refl, subst, sym, true, true≢false, ℕ, ◌++◌, ◌==◌, ◌∙◌, ◌∷◌, ◌≡◌, ◌≤◌, ◌⊎◌}
-use Rattle.std.specs.Prelude.{Some}
+use Rattle.std.specs.Prelude.{None, Option, Some}
 use Rattle.std.specs.Option.{option_or}
 use Rattle.history_laws.specs.Words.{Entry, Lending, Offered, Setup, Side, head, lendings, lends, lends_by, lent, new_offer, offer_in, offered, returns}
 use Rattle.history_laws.specs.Lists.{IsAmong}
@@ -74,6 +74,14 @@ module _ (setup : Setup) (payload : List ℕ) (past : List Entry) (before : ℕ)
 
   pub offered-now : (n : NewLending setup payload x e past) → offered x n.s (e ∷ past) ≡ Some (record { link = n.link; offer = new_offer setup payload x n.first n.link past })
   offered-now n = ap (λ (os : List Offered). option_or (head os) (offered x n.s past)) (n.offers n.s ∙ ap (λ b. if b then record { link = n.link; offer = new_offer setup payload x n.first n.link past } ∷ [] else []) (eq-eqb n.s n.s refl))
+
+  -- before it, the side had not offered there
+  pub not-offered : (n : NewLending setup payload x e past) → offered x n.s past ≡ None
+  not-offered n = by (offered x n.s past) refl
+    where
+      by : (o : Option Offered) → offered x n.s past ≡ o → offered x n.s past ≡ None
+      by None i = i
+      by (Some o) i = absurd (true≢false (sym n.early ∙ (let h = off n.s in h.later x o i)))
 
   of-offer-after : ((l : Lending) → IsAmong l (lendings x past) → IsOfOffer x past l) → (l : Lending) → IsAmong l (lendings x (e ∷ past)) → IsOfOffer x (e ∷ past) l
   of-offer-after was l i = by (begins setup payload past before e made st off x) (in-append l (filter_map (lends x) e.posts) (lendings x past) i)

@@ -11,8 +11,7 @@ use Rattle.pipe_model.specs.declared.reply.SentKind.TheVariants.{Accept as Accep
 use Rattle.std.specs.Option.{option_or}
 use Rattle.smc_num.specs.declared.LinkPhase.TheVariants.{Live as LiveLink}
 use Rattle.pipe_model.specs.Handshake.{kind_of}
-use Rattle.pipe_model.specs.Messages.{confirm_link}
-use Rattle.history_laws.specs.Words.{A, AskKey, B, BadClc, BadStep, ClcFault, ClcMessage, ClcStep, Decline, Declined, EndState, Entry, Established, Faulty, Fell, FellBack, Flow, Front, HasFallen, Held, Hold, IsUp, Lack, Lacks, LinkId, Lost, NoEnd, NoLiveLink, NoMessage, NoSubnet, Offer, Offered, Post, Proposal, Ready, Refusal, Reply, Reset, SendAccept, Setup, Side, Wait, WaitsAnswer, WaitsConfirm, WaitsLink, WaitsProposal, WasReset, Whole, Wrong, after_clc, after_loss, clc_posts, clc_told, end_state, expects, fabric, fewest, first_link, flow_of, front, front_of, front_posts, front_told, group_of, group_on, groups_begun, head, is_first_contact, is_raw, keys_of, lacks, link_at, loses_group_with, named_link, new_offer, next_free, no_link, offer_in, offered, offered_if, pair_on, peer_of, phase_at, refusal, rkey_post, step_told, stream, table_of, takes_message, untaken, up_by}
+use Rattle.history_laws.specs.Words.{A, AskKey, B, BadClc, BadStep, ClcFault, ClcMessage, ClcStep, Decline, Declined, EndState, Entry, Established, Faulty, Fell, FellBack, Flow, Front, HasFallen, Held, Hold, IsUp, Lack, Lacks, LinkId, Lost, NoEnd, NoLiveLink, NoMessage, NoSubnet, Offer, Offered, Post, Proposal, Ready, Refusal, Reply, Reset, SendAccept, Setup, Side, Wait, WaitsAnswer, WaitsConfirm, WaitsLink, WaitsProposal, WasReset, Whole, Wrong, after_clc, after_loss, clc_posts, clc_told, confirm_link, end_state, expects, fabric, fewest, first_link, flow_of, front, front_of, front_posts, front_told, group_of, group_on, groups_begun, head, is_first_contact, is_raw, keys_of, lacks, link_at, loses_group_with, named_link, new_offer, next_free, no_link, offer_in, offered, offered_if, pair_on, peer_of, phase_at, refusal, rkey_post, step_told, stream, table_of, takes_message, untaken, up_by}
 use Rattle.history_laws.proofs.Posts.{AreWired, begins-nothing, data-wired, offers-nothing, says-nothing}
 use Rattle.history_laws.specs.Posts.{AreData}
 use Rattle.history_laws.specs.Offers.{is_own_state}

@@ -3,6 +3,7 @@ use Rattle.std.proofs.Common.{Bool, List, None, Some, [], ap, eq-eqb, false, ifâ
 use Rattle.std.specs.Prelude.{Option, is_some, option_map, slice_index_or, unwrap_or}
 use Rattle.std.specs.Option.{option_or}
 use Rattle.pipe_model.specs.declared.reply.Hold.TheVariants.{AddLink as AddLinkHold, ConfirmRkey as ConfirmRkeyHold, DeleteRkey as DeleteRkeyHold, FirstContact as FirstContactHold}
+use Rattle.pipe_model.specs.Handshake.{verdict}
 use Rattle.clc_wire.specs.declared.message.ClcMessage.TheVariants.{Accept as AcceptMessage, Confirm as ConfirmMessage, Decline as DeclineMessage, Proposal as ProposalMessage}
 use Rattle.pipe_model.specs.Fabric.{does, lands as lands_at, loses}
 use Rattle.pipe_model.specs.Wires.{landing}
@@ -13,7 +14,7 @@ use Rattle.pipe_model.specs.declared.flow.KeyPhase.TheVariants.{Asked}
 use Rattle.pipe_model.specs.declared.reply.SentKind.TheVariants.{Accept as AcceptSent, AddLink as AddLinkSent, Confirm as ConfirmSent, DeleteRkey as DeleteSent, ConfirmRkey as KeySent, ConfirmLink as LinkSent, TestLink as TestSent}
 use Rattle.pipe_model.specs.declared.event.Event.TheVariants.{Clc, Raw, Write}
 use Rattle.pipe_model.specs.Replies.{told}
-use Rattle.history_laws.specs.Words.{A, Abort, AskKey, Await, B, BadClc, BadStep, Cdc, ClcMessage, ClcStep, Close, Complete, Cut, Decline, Declined, Deliver, Done, Dropped, EndState, Entry, Established, Event, Fabric, Faulty, Fell, FellBack, Finish, Flow, Front, GroupEnded, Grow, Heal, Held, KeyPhase, Lacks, Landed, LinkId, Llc, LlcMessage, Lost, Move, NameUsed, NoLiveLink, NoMessage, NotCapable, Offer, Open, Opened, Peer, Placed, Post, Read, Ready, Reply, Report, Reset, SendAccept, SendConfirm, Setup, Side, Swallow, Test, Trim, Wait, WaitsAnswer, WaitsConfirm, WaitsProposal, Whole, Wrong, accept_post, act_of, act_posts, begins_delete, begins_drop, begins_test, clc_posts, clc_step, clc_told, completed_told, confirm_post, confirms_on, connection_posts, dead_at, deliver_told, draft, end_state, expects, fabric, fewest, first_contact_step, first_link, flow_of, front, front_posts, front_told, group_of, group_on, grow_post, grow_told, head, is_adding, is_asked, is_asking_or_waiting, is_dead, is_deleting, is_dropping, is_first_contact, is_nil, is_on, is_opened, is_raw, key_step, lacks, lands_told, leaves, link_or_none, llc_step, lowest_live, named_link, no_link, on_accept, open_slots, open_told, other, peer, peer_of, post_at, proposal_post, record_of, reply_of, report_posts, report_told, reports, standing_at, stands, step_posts, step_told, swallowed, table_of, test_post, trim_post, trim_told, trimmed, verdict, with_flow, with_peer}
+use Rattle.history_laws.specs.Words.{A, Abort, AskKey, Await, B, BadClc, BadStep, Cdc, ClcMessage, ClcStep, Close, Complete, Cut, Decline, Declined, Deliver, Done, Dropped, EndState, Entry, Established, Event, Fabric, Faulty, Fell, FellBack, Finish, Flow, Front, GroupEnded, Grow, Heal, Held, KeyPhase, Lacks, Landed, LinkId, Llc, LlcMessage, Lost, Move, NameUsed, NoLiveLink, NoMessage, NotCapable, Offer, Open, Opened, Peer, Placed, Post, Read, Ready, Reply, Report, Reset, SendAccept, SendConfirm, Setup, Side, Swallow, Test, Trim, Wait, WaitsAnswer, WaitsConfirm, WaitsProposal, Whole, Wrong, accept_post, act_of, act_posts, begins_delete, begins_drop, begins_test, clc_posts, clc_step, clc_told, completed_told, confirm_post, confirms_on, connection_posts, dead_at, deliver_told, draft, end_state, expects, fabric, fewest, first_contact_step, first_link, flow_of, front, front_posts, front_told, group_of, group_on, grow_post, grow_told, head, is_adding, is_asked, is_asking_or_waiting, is_dead, is_deleting, is_dropping, is_first_contact, is_nil, is_on, is_opened, is_raw, key_step, lacks, lands_told, leaves, link_or_none, llc_step, lowest_live, named_link, no_link, on_accept, open_slots, open_told, other, peer, peer_of, post_at, proposal_post, record_of, reply_of, report_posts, report_told, reports, standing_at, stands, step_posts, step_told, swallowed, table_of, test_post, trim_post, trim_told, trimmed, with_flow, with_peer}
 use Rattle.history_laws.proofs.Basics.{either-side, none-is, same-self}
 use Rattle.history_laws.specs.Made.{IsMade}
 use Rattle.link_laws.specs.Linked.{Under}

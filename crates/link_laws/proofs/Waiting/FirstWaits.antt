@@ -11,11 +11,11 @@ use Rattle.link_laws.specs.Joined.{HasContact}
 use Rattle.link_laws.specs.Awaited.{AllWith, AreAwaited, AreOnKnown, first_up}
 use Rattle.link_laws.specs.UnderWay.{HasFlows, link_kind}
 use Rattle.link_laws.proofs.Waiting.Landed.{HasLanded, has-landed, landed-under}
-use Rattle.link_laws.proofs.UnderWay.{both-stand}
+use Rattle.link_laws.proofs.UnderWay.{GoesOn, Grows, any-goes, both-stand}
 use Rattle.link_laws.proofs.Contact.{IsHarmless, harmless, kind-given, not-up}
 use Rattle.link_laws.proofs.Sound.{has-group}
 use Rattle.link_laws.specs.Contact.{IsJoinedFirst, IsOfferedFirst}
-use Rattle.link_laws.proofs.Joined.{has-contact}
+use Rattle.link_laws.proofs.Joined.{has-contact, pays}
 use Rattle.link_laws.proofs.Waiting.Awaits.{awaited-after, awaited-first}
 
 -- what a step that takes a message of the link flow says of first contact: only there a first link goes live
@@ -179,6 +179,13 @@ first-waits setup payload past before e made was wait x s link up = by (act_in x
         step : (v : FlowStep) → act.step ≡ v → confirmed_by (offered B s past) act.link v ≡ Some link → end_state x s past ≡ WaitsLink
         step (Live reply true) d k = offer (offered B s past) refl (named (is_first_on act.link (offered B s past)) refl k) reply d
         step v d k = absurd (none-is link k)
+
+-- what an entry makes stand is new
+pub grows-of : (setup : Setup) (payload : List ℕ) (e : Entry) (past : List Entry) → IsMadeAll setup payload (e ∷ past) → Grows (fabric past) (fabric (e ∷ past))
+grows-of setup payload e past m = by (has-contact setup payload past m.1) m.0.1
+  where
+    by : HasContact past → IsMade setup payload past m.0.0 e → Grows (fabric past) (fabric (e ∷ past))
+    by c g = let it : GoesOn e past (HasFlows.under c.flows) = any-goes setup payload past c.flows (pays setup payload past c) m.0.0 e (record { reply = g.reply; posts = g.posts }) in it.grows
 
 -- and its ends wait
 pub all-awaited : (setup : Setup) (payload : List ℕ) (past : List Entry) (m : IsMadeAll setup payload past) → AreAwaited past (HasFlows.under (HasContact.flows (has-contact setup payload past m)))
