@@ -6,7 +6,7 @@ use Rattle.pipe_model.specs.Lawful.{posted}
 use Rattle.history_laws.specs.Words.{Entry, Setup, reply_of}
 
 -- that an entry has the reply and the posts that the definitions give, whatever its event
-pub record IsMadeAny (setup : Setup) (payload : List ℕ) (past : List Entry) (before : ℕ) (e : Entry) : Type 0 where
+pub record IsMade (setup : Setup) (payload : List ℕ) (past : List Entry) (before : ℕ) (e : Entry) : Type 0 where
   -- what the actor is told
   pub reply : e.reply ≡ reply_of before (told setup payload past e.event)
   -- what both managers post with it
@@ -15,4 +15,4 @@ pub record IsMadeAny (setup : Setup) (payload : List ℕ) (past : List Entry) (b
 -- each entry has the reply and the posts that the definitions give
 abbrev pub IsMadeAll : Setup → List ℕ → List Entry → Type 0
 IsMadeAll setup payload [] = Unit {0}
-IsMadeAll setup payload (e ∷ past) = ((before : ℕ) × IsMadeAny setup payload past before e) × IsMadeAll setup payload past
+IsMadeAll setup payload (e ∷ past) = ((before : ℕ) × IsMade setup payload past before e) × IsMadeAll setup payload past

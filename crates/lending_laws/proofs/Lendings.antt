@@ -11,22 +11,42 @@ mod Places
 mod Returns
 mod Reuse
 mod Told
+-- all that lendings want, after each history
+pub use Rattle.lending_laws.proofs.Lendings.All.{all-owed}
+-- lendings are apart, held and done with, from what is owed after each history
+pub use Rattle.lending_laws.proofs.Lendings.All.{are-done-all}
+-- A confirms in first contact where it has no group, and else where it is in the group of the offer and an element is free
+pub use Rattle.lending_laws.proofs.Lendings.Groups.{ConfirmFacts}
 -- what a verdict that offers tells of group, link and element
 pub use Rattle.lending_laws.proofs.Lendings.Groups.{accept-facts, confirm-facts}
 -- what the agreement of wires and pipes wants with an entry
 pub use Rattle.lending_laws.proofs.Lendings.Least.{go-on-plain}
 -- what the agreement of wires and pipes wants of offers, without a word on parts
 pub use Rattle.lending_laws.proofs.Lendings.Least.{plain-offers}
+-- all that is owed, from the least
+pub use Rattle.lending_laws.proofs.Lendings.Least.{from-least}
 -- an element is lent again only when it is done with, from the least that is owed
 pub use Rattle.lending_laws.proofs.Lendings.Least.{relending}
 -- lendings are apart, held and done with, from the least that is owed
 pub use Rattle.lending_laws.proofs.Lendings.Least.{lending-laws}
 -- reuse from the least
 pub use Rattle.lending_laws.proofs.Lendings.Least.{no-old-bytes}
+-- what passes a filter
+pub use Rattle.lending_laws.proofs.Lendings.Lendings.{in-filter}
+-- a new lending, by its offer
+pub use Rattle.lending_laws.proofs.Lendings.Lendings.{in-new}
+-- before it, the side had not offered there
+pub use Rattle.lending_laws.proofs.Lendings.Lendings.{not-offered}
+-- after each history
+pub use Rattle.lending_laws.proofs.Lendings.Lendings.{all-lendings}
+-- what an entry does to what is lent
+pub use Rattle.lending_laws.proofs.Lendings.Lendings.{changes}
 -- an offer's packet sequence number is its group
 pub use Rattle.lending_laws.proofs.Lendings.Owed.{all-psn}
 -- and is not 0
 pub use Rattle.lending_laws.proofs.Lendings.Owed.{grouped-own}
+-- after each history what is lent is of the side's group
+pub use Rattle.lending_laws.proofs.Lendings.Places.{all-groups}
 -- A's offer names the link that B's does
 pub use Rattle.lending_laws.proofs.Lendings.Returns.{same-link}
 -- the token of what is lent names its lending; and a message without bytes is posted with no write before it

@@ -1,14 +1,10 @@
 -- The keys of an RMB that a side asks its peer to confirm: one for each link of the list; and what is owed for it.
 use Rattle.std.specs.Prelude.{List, true, ◌∷◌, ◌≡◌, ◌⊎◌}
-use Rattle.history_laws.specs.Words.{Entry, KeyToken, LinkId, Offer, Side, fabric, flow_of, is_asked, keys_of, peer, table_of, token_rmb, unpending}
+use Rattle.history_laws.specs.Words.{Entry, KeyToken, LinkId, Offer, Side, flow_of, is_asked, keys_of, table_of, token_rmb, unpending}
 use Rattle.history_laws.specs.Lists.{IsAmong}
+use Rattle.link_laws.specs.KeyChanges.{AsksKey, told_of}
 use Rattle.link_laws.specs.Covered.{HasKey}
-use Rattle.link_laws.specs.KeyChanges.{AsksKey}
 use Rattle.link_laws.specs.FabricChanges.{OffersFirst}
-
--- the links whose keys were in the last CONFIRM RKEY of a side
-abbrev pub told_of : Side → List Entry → List LinkId
-told_of x past = (peer x (fabric past)).told
 
 -- while the answer to CONFIRM RKEY is awaited, the RMB has a key for each link of the list
 abbrev pub AreAsked : Side → List Entry → Type 0

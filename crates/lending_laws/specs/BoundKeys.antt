@@ -1,7 +1,7 @@
 -- What the law of bound keys hangs on: numbers that were bound and are free, and what lendings owe for them.
-use Rattle.pipe_model.specs.Keys.{Binding, deleted, last_binding}
 use Rattle.std.specs.Prelude.{List, Some, [], false, true, ℕ, ◌∷◌, ◌≡◌, ◌⊎◌}
-use Rattle.history_laws.specs.Words.{Entry, Lending, Setup, Side, Withdraw, group_of, has, is_done_with, is_used, keys_of, lendings, lent, named_rmbs}
+use Rattle.pipe_model.specs.Keys.{deleted}
+use Rattle.history_laws.specs.Words.{Binding, Entry, Lending, Setup, Side, Withdraw, group_of, has, is_done_with, is_used, keys_of, last_binding, lendings, lent, named_rmbs}
 use Rattle.history_laws.specs.Lists.{IsAmong}
 use Rattle.link_laws.specs.FabricChanges.{Takes}
 

@@ -1,5 +1,6 @@
 pub mod Asked
 pub mod BoundKeys
+pub mod Deleting
 pub mod Ends
 pub mod KeyGroups
 pub mod Lendings
@@ -7,3 +8,4 @@ pub mod Owed
 pub mod OwedKeys
 pub mod Reuse
 pub mod Tokens
+pub mod Unlent

@@ -8,7 +8,7 @@ use Rattle.link_laws.specs.KeyChanges.{HasUse, TakesOffer, offered_key, told_by}
 use Rattle.link_laws.specs.Linked.{AreLatest, AreLinked, Under}
 use Rattle.link_laws.specs.FabricChanges.{Takes}
 use Rattle.link_laws.specs.Covered.{AreCovered, OwedByFlows, wants_keys}
-use Rattle.link_laws.specs.Learnt.{AreTold, Begins, IsNear}
+use Rattle.link_laws.specs.Learnt.{AreTold, BeginsFirst, IsNear}
 use Rattle.link_laws.specs.Moves.{OwedByMoves}
 use Rattle.lending_laws.specs.Tokens.{TellsBound, use_of}
 use Rattle.lending_laws.specs.Asked.{AreAsked, OwedByRequests}
@@ -48,7 +48,7 @@ pub record OwedByTold (x : Side) (e : Entry) (past : List Entry) : Type 0 where
   -- as keys are withdrawn, the peer knows none of them on a link that stands at x
   pub forgotten : (t : Takes x e past Withdraw) (k : Key) → IsAmong k (book_of (other x) past) → has k.rmb (named_rmbs (deleted t.act.message) (keys_of x past).keys) ≡ true → stands k.link (table_of x past) ≡ false
   -- as x begins a group, the peer knows nothing of its links
-  pub first : Begins x e → (k : Key) → IsAmong k (book_of (other x) (e ∷ past)) → IsNear x k.link (e ∷ past) → ⊥
+  pub first : BeginsFirst x e → (k : Key) → IsAmong k (book_of (other x) (e ∷ past)) → IsNear x k.link (e ∷ past) → ⊥
 
 -- what is owed with an entry
 pub record OwedKeys (setup : Setup) (payload : List ℕ) (x : Side) (e : Entry) (past : List Entry) : Type 0 where

@@ -39,10 +39,14 @@ pub use Rattle.link_laws.proofs.Contact.Changes.{Kind, Plain, Begins, Joins, Rea
 pub use Rattle.link_laws.proofs.Contact.Offers.{offered-row}
 -- the link that A joins on is the next of its slot
 pub use Rattle.link_laws.proofs.Contact.Offers.{joined-next}
+-- whether a step makes a link
+pub use Rattle.link_laws.proofs.Contact.OtherLandings.{is_new}
+-- what a step that makes none does to the links of its side
+pub use Rattle.link_laws.proofs.Contact.OtherLandings.{acted}
 -- a landing that is not of the link flow does nothing to a side in first contact but to end its group, and posts nothing of the link flow there
 pub use Rattle.link_laws.proofs.Contact.OtherLandings.{IsHarmless}
 -- a message that is not of the link flow establishes no end and does no harm to first contact
-pub use Rattle.link_laws.proofs.Contact.OtherLandings.{not-up, harmless}
+pub use Rattle.link_laws.proofs.Contact.OtherLandings.{acts-is, not-up, harmless}
 -- all that the handshake owes after a history, from what first contact is there
 pub use Rattle.link_laws.proofs.Contact.Owing.{owed}
 -- an end that waits is not up, and its early state is that

@@ -13,6 +13,8 @@ pub use Rattle.link_laws.proofs.Fabric.OneActs.{act-lands}
 pub use Rattle.link_laws.proofs.Fabric.OneActs.{one-learns}
 -- one act has one step
 pub use Rattle.link_laws.proofs.Fabric.OneActs.{one-step}
+-- the step of an act is that of the flows
+pub use Rattle.link_laws.proofs.Fabric.OneActs.{act-step}
 -- what a step says of the key flow
 pub use Rattle.link_laws.proofs.Fabric.OneActs.{taken-key}
 -- what an act does to the fabric is all that the entry does to it

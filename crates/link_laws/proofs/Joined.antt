@@ -5,12 +5,12 @@ use Rattle.std.specs.Option.{option_or}
 use Rattle.pipe_model.specs.Lawful.{IsLawfulPast}
 use Rattle.history_laws.specs.Words.{Entry, Setup}
 use Rattle.history_laws.proofs.Basics.{none-is}
-use Rattle.history_laws.specs.Made.{IsMadeAll, IsMadeAny}
+use Rattle.history_laws.specs.Made.{IsMadeAll, IsMade}
 use Rattle.link_laws.specs.UnderWay.{HasFlows, kind_in, link_kind, living}
 use Rattle.link_laws.proofs.UnderWay.{GoesOn, any-goes, flows-at-first, flows-go-on, goes-on, link-in}
 use Rattle.link_laws.specs.Linked.{Under, under_in}
 use Rattle.link_laws.specs.Joined.{HasAllFlows, HasContact}
-use Rattle.link_laws.specs.Owed.{Owed}
+use Rattle.link_laws.specs.Owed.{OwedByHandshake}
 use Rattle.link_laws.proofs.Contact.{contacted, contacted-first, owed}
 use Rattle.link_laws.proofs.Requests.{keys-at-first, keys-go-on, test-at-first, test-goes-on}
 use Rattle.link_laws.specs.Lasting.{AllFlows}
@@ -28,11 +28,11 @@ none-after e past all g none quiet = by g.new g.left (sym g.posted ∙ quiet) (l
 
 module _ (setup : Setup) (payload : List ℕ) (past : List Entry) (all : HasContact past) where
   -- what first contact owes, for what is under way of the link flow
-  pub pays : Owed setup payload past (HasFlows.under all.flows)
+  pub pays : OwedByHandshake setup payload past (HasFlows.under all.flows)
   pays = let f : HasFlows past = all.flows in owed setup payload past f.under f.linked all.contacted
 
   -- the step
-  pub contact-goes-on : (before : ℕ) (e : Entry) → IsMadeAny setup payload past before e → HasContact (e ∷ past)
+  pub contact-goes-on : (before : ℕ) (e : Entry) → IsMade setup payload past before e → HasContact (e ∷ past)
   contact-goes-on before e given = record {
     flows = flows-go-on setup payload past all.flows pays before e given;
     contacted = contacted setup payload past f.under before e given (HasFlows.under (flows-go-on setup payload past all.flows pays before e given)) quiet f.linked f.carried all.contacted;

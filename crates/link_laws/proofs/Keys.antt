@@ -47,6 +47,8 @@ pub use Rattle.link_laws.proofs.Keys.Lists.{not-of}
 pub use Rattle.link_laws.proofs.Keys.Lists.{not-alike}
 -- what a test finds, and what it doesn't
 pub use Rattle.link_laws.proofs.Keys.Lists.{any-of}
+-- no element passes, so this one does not
+pub use Rattle.link_laws.proofs.Keys.Lists.{none-of}
 -- an element that passes
 pub use Rattle.link_laws.proofs.Keys.Lists.{any-found}
 -- the first that passes

@@ -1,6 +1,7 @@
 pub mod Contact
 pub mod Fabric
 pub mod Joined
+pub mod KeyMessages
 pub mod Keys
 pub mod Lasting
 pub mod Requests

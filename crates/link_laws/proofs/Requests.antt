@@ -10,6 +10,8 @@ mod TestTaken
 pub use Rattle.link_laws.proofs.Requests.KeySteps.{keys-go-on}
 -- at first
 pub use Rattle.link_laws.proofs.Requests.KeySteps.{keys-at-first}
+-- a side and its peer after one of them has changed
+pub use Rattle.link_laws.proofs.Requests.KeySteps.{peer-with}
 -- the step over all events
 pub use Rattle.link_laws.proofs.Requests.TestSteps.{test-goes-on}
 -- at first

@@ -101,6 +101,8 @@ pub use Rattle.link_laws.proofs.UnderWay.WireStep.{alive-is}
 pub use Rattle.link_laws.proofs.UnderWay.WireStep.{stands-made}
 -- what stands after a change of links stood before, or was not made yet; and no slot forgets how many links were made on it
 pub use Rattle.link_laws.proofs.UnderWay.WireStep.{Grows}
+-- a link that is not dead after an entry was not dead before it, or was not made
+pub use Rattle.link_laws.proofs.UnderWay.WireStep.{comes-alive}
 -- dead stays dead
 pub use Rattle.link_laws.proofs.UnderWay.WireStep.{stays-dead}
 -- what is not forgotten is on a link that is not dead

@@ -5,5 +5,11 @@ mod FirstWaits
 mod Landed
 -- an establishment, by its kind
 pub use Rattle.link_laws.proofs.Waiting.ComingUp.{by-kind}
+-- what an entry makes stand is new
+pub use Rattle.link_laws.proofs.Waiting.FirstWaits.{grows-of}
 -- what is owed with each entry
 pub use Rattle.link_laws.proofs.Waiting.FirstWaits.{with-of}
+-- what is known of a message that lands at a side
+pub use Rattle.link_laws.proofs.Waiting.Landed.{HasLanded}
+-- what lands with an entry
+pub use Rattle.link_laws.proofs.Waiting.Landed.{has-landed}

@@ -6,7 +6,7 @@ use Rattle.link_laws.specs.Linked.{Under}
 use Rattle.link_laws.specs.Offered.{AreOffered}
 use Rattle.link_laws.specs.Contact.{AreCounted, Contact, IsBeyond}
 use Rattle.link_laws.specs.UnderWay.{HasFlows}
-use Rattle.link_laws.specs.KeyFlows.{HasKeys}
+use Rattle.link_laws.specs.KeyFlows.{HasKeyFlow}
 use Rattle.link_laws.specs.TestFlows.{HasTest}
 
 -- offers, the row of first contact, groups and "beyond", where `under` is what is under way of the link flow
@@ -32,6 +32,6 @@ pub record HasAllFlows (past : List Entry) : Type 0 where
   -- all of the above
   pub links : HasContact past
   -- each side's key flow
-  pub keys : (x : Side) → HasKeys x past
+  pub keys : (x : Side) → HasKeyFlow x past
   -- each side's test of each slot
   pub tests : (x : Side) (slot : ℕ) → HasTest x slot past

@@ -2,14 +2,14 @@
 use Rattle.std.specs.Prelude.{Bool, List, Some, [], false, filter_map, take, true, ℕ, ◌<◌, ◌==◌, ◌∷◌, ◌≡◌}
 use Rattle.std.specs.List.{list_any}
 use Rattle.pipe_model.specs.declared.flow.FlowStep.TheVariants.{Confirmed}
-use Rattle.pipe_model.specs.Keys.{deleted, forgets, new_key, token_keys}
+use Rattle.pipe_model.specs.Keys.{confirms, deleted, forgets, new_key, token_keys}
 use Rattle.pipe_model.specs.declared.reply.SentKind.{SentKind}
 use Rattle.pipe_model.specs.declared.reply.SentKind.TheVariants.{Confirm as ConfirmSent, ConfirmLink as LinkSent}
 use Rattle.pipe_model.specs.Flows.{LinkSent}
 use Rattle.pipe_model.specs.declared.event.Event.TheVariants.{Clc as ClcEvent}
 use Rattle.pipe_model.specs.declared.reply.Reply.TheVariants.{Sent}
 use Rattle.smc_num.specs.Keys.{binds}
-use Rattle.history_laws.specs.Words.{A, Act, AddKeys, AskLink, B, ConfirmRkey, Entry, FlowStep, Forget, Key, KeyToken, Keys, Known, Learn, LinkId, Llc, LlcMessage, Offer, Offered, ReplyAdd, ReplyKeys, SendKeys, Side, Withdraw, book_of, confirms, flow_of, group_of, has, is_for, key_base, keys_of, link_or_none, named_rmbs, named_slot, no_keys, offered, other, registers, rmb_at, table_of, token_rmb, unpending, withdraws}
+use Rattle.history_laws.specs.Words.{A, Act, AddKeys, AskLink, B, ConfirmRkey, Entry, FlowStep, Forget, Key, KeyToken, Keys, Known, Learn, LinkId, Llc, LlcMessage, Offer, Offered, ReplyAdd, ReplyKeys, SendKeys, Side, Withdraw, book_of, fabric, flow_of, group_of, has, is_for, key_base, keys_of, link_or_none, named_rmbs, named_slot, no_keys, offered, other, peer, registers, rmb_at, table_of, token_rmb, unpending, withdraws}
 use Rattle.history_laws.specs.Lists.{IsAmong}
 use Rattle.link_laws.specs.FabricChanges.{OffersFirst, Takes}
 
@@ -129,3 +129,7 @@ pub record HasUse (k : Key) (ks : List Key) : Type 0 where
 pub data Goes (x : Side) (e : Entry) (past : List Entry) (rmb : ℕ) : Type 0 where
   Withdrawn : (t : Takes x e past Withdraw) → has rmb (named_rmbs (deleted t.act.message) (keys_of x past).keys) ≡ true → Goes x e past rmb
   GroupGoes : group_of x (e ∷ past) ≡ 0 → Goes x e past rmb
+
+-- the links whose keys were in the last CONFIRM RKEY of a side
+abbrev pub told_of : Side → List Entry → List LinkId
+told_of x past = (peer x (fabric past)).told

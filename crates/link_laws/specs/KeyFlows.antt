@@ -26,7 +26,7 @@ abbrev pub key_kind : Side → Under → Bool
 key_kind x w = is_key_of x w.from w.message
 
 -- on links that are not dead nothing of a side's key flow is under way but one message, and that fits the side's flows
-pub record HasKeys (x : Side) (past : List Entry) : Type 0 where
+pub record HasKeyFlow (x : Side) (past : List Entry) : Type 0 where
   -- what is under way of it
   pub under : Option Under
   -- Clc, Trim, Report and Deliver post its messages

@@ -3,7 +3,7 @@
 use Rattle.std.specs.Prelude.{Bool, List, [], false, not, true, ℕ, ◌&&◌, ◌||◌, ◌∷◌, ◌≡◌, ◌⊎◌}
 use Rattle.history_laws.specs.Words.{A, B, Entry, LinkId, Setup, Side, group_of, has_ended, has_link, live_links, stands, table_of}
 use Rattle.link_laws.specs.UnderWay.{HasFlows}
-use Rattle.link_laws.specs.Owed.{Owed}
+use Rattle.link_laws.specs.Owed.{OwedByHandshake}
 
 -- whether a side has lost a link: it stood there, and with some entry it did so no more
 abbrev pub is_lost : Side → LinkId → List Entry → Bool
@@ -31,7 +31,7 @@ pub record NoneAgain (past : List Entry) : Type 0 where
 -- before each entry links and flows are as they should be, and the handshake owes nothing to them
 abbrev pub AllFlows : Setup → List ℕ → List Entry → Type 0
 AllFlows setup payload [] = Unit {0}
-AllFlows setup payload (e ∷ past) = ((all : HasFlows past) × Owed setup payload past all.under) × AllFlows setup payload past
+AllFlows setup payload (e ∷ past) = ((all : HasFlows past) × OwedByHandshake setup payload past all.under) × AllFlows setup payload past
 
 -- that a side is in a group, or has been in it until it ended
 abbrev pub InOrEnded : Side → ℕ → List Entry → Type 0

@@ -41,7 +41,7 @@ pub record AreTold (x : Side) (past : List Entry) : Type 0 where
   pub exact : AreExact x past
 
 -- a side offers in first contact with an entry
-pub record Begins (x : Side) (e : Entry) : Type 0 where
+pub record BeginsFirst (x : Side) (e : Entry) : Type 0 where
   pub link : LinkId
   pub offer : Offer
   pub offers : OffersFirst x e link offer
@@ -50,7 +50,7 @@ pub record Begins (x : Side) (e : Entry) : Type 0 where
 pub data Regroups (x : Side) (e : Entry) (past : List Entry) : Type 0 where
   SameGroup : group_of x (e ∷ past) ≡ group_of x past → Regroups x e past
   NoGroup : group_of x (e ∷ past) ≡ 0 → Regroups x e past
-  NewGroup : Begins x e → group_of x past ≡ 0 → Regroups x e past
+  NewGroup : BeginsFirst x e → group_of x past ≡ 0 → Regroups x e past
 
 -- what links and groups owe with an entry
 pub record OwedByLinks (e : Entry) (past : List Entry) : Type 0 where
@@ -73,4 +73,4 @@ pub record OwedByMessages (x : Side) (e : Entry) (past : List Entry) : Type 0 wh
   -- as keys are withdrawn, the peer knows none of them on a link that stands at x
   pub forgotten : (t : Takes x e past Withdraw) (k : Key) → IsAmong k (book_of (other x) past) → has k.rmb (named_rmbs (deleted t.act.message) (keys_of x past).keys) ≡ true → stands k.link (table_of x past) ≡ false
   -- as x begins a group, the peer knows nothing of its links
-  pub first : Begins x e → (k : Key) → IsAmong k (book_of (other x) (e ∷ past)) → IsNear x k.link (e ∷ past) → ⊥
+  pub first : BeginsFirst x e → (k : Key) → IsAmong k (book_of (other x) (e ∷ past)) → IsNear x k.link (e ∷ past) → ⊥

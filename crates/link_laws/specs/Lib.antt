@@ -11,6 +11,9 @@ pub mod Learnt
 pub mod Linked
 pub mod Moves
 pub mod Offered
+pub mod OnWires
 pub mod Owed
+pub mod Posted
+pub mod StepSays
 pub mod TestFlows
 pub mod UnderWay

@@ -3,7 +3,7 @@ use Rattle.std.specs.Prelude.{Bool, List, true, ℕ, ◌+◌, ◌<◌, ◌≡◌
 use Rattle.pipe_model.specs.declared.flow.FlowStep.TheVariants.{Live}
 use Rattle.history_laws.specs.Words.{A, Entry, Fabric, LinkId, Offer, Side, fabric, made_on, peer, stands, table_of}
 use Rattle.history_laws.specs.Tables.{Rises}
-use Rattle.link_laws.specs.Learnt.{Begins}
+use Rattle.link_laws.specs.Learnt.{BeginsFirst}
 use Rattle.link_laws.specs.FabricChanges.{OffersFirst, Takes}
 
 -- what is so of the fabric after an entry, beside that before it: a link that stands newly has an incarnation above those made on its slot,
@@ -14,7 +14,7 @@ pub record Moves (e : Entry) (f g : Fabric) : Type 0 where
   -- Clc and Deliver: a slot is made anew with the next incarnation
   pub made : (j : ℕ) → made_on j f ≤ made_on j g
   -- Clc begins a group; Report and Deliver end one
-  pub groups : (z : Side) → ((peer z g).group ≡ (peer z f).group) ⊎ (((peer z g).group ≡ 0) ⊎ Begins z e)
+  pub groups : (z : Side) → ((peer z g).group ≡ (peer z f).group) ⊎ (((peer z g).group ≡ 0) ⊎ BeginsFirst z e)
 
 -- what is owed with an entry
 pub record OwedByMoves (e : Entry) (past : List Entry) : Type 0 where

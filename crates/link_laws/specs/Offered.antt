@@ -5,7 +5,7 @@ use Rattle.history_laws.specs.Words.{A, B, ClcMessage, Entry, NoEnd, Offered, Pr
 use Rattle.history_laws.specs.Offers.{is_own_state}
 
 -- B's end has the Proposal before it
-pub record IsProposed (s : ℕ) (past : List Entry) : Type 0 where
+pub record HasProposal (s : ℕ) (past : List Entry) : Type 0 where
   pub proposal : Proposal
   pub untaken_a : untaken A s past ≡ ProposalMessage proposal ∷ []
   pub untaken_b : untaken B s past ≡ []
@@ -40,7 +40,7 @@ pub record AreOffered (past : List Entry) : Type 0 where
   -- Report and Deliver end a group that was begun
   pub ended : (x : Side) (g : ℕ) → has_ended x g past ≡ true → g ≤ groups_begun past
   -- Open posts the Proposal; Clc takes it
-  pub proposed : (s : ℕ) → is_raw s past ≡ false → end_state B s past ≡ WaitsProposal → IsProposed s past
+  pub proposed : (s : ℕ) → is_raw s past ≡ false → end_state B s past ≡ WaitsProposal → HasProposal s past
   -- Open and Raw under one name
   pub plain : (s : ℕ) → is_opened s past ≡ true → is_raw s past ≡ false
   -- Open and Raw begin a socket

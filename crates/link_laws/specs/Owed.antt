@@ -35,7 +35,7 @@ pub record CanAskKey (x : Side) (past : List Entry) : Type 0 where
 
 -- what the handshake owes after a history, where `under` is what is under way of the link flow: A's group is one that B has begun; A joins,
 -- B asks for the first link, and A asks for a key, only where they may
-pub record Owed (setup : Setup) (payload : List ℕ) (past : List Entry) (under : Option Under) : Type 0 where
+pub record OwedByHandshake (setup : Setup) (payload : List ℕ) (past : List Entry) (under : Option Under) : Type 0 where
   -- Clc: the number of the group that B begins is new at A
   pub begins : group_of A past ≤ groups_begun past
   -- Clc: A takes an Accept of first contact

@@ -14,7 +14,7 @@ IsCarriedOn size link x token past h = IsCarried size link x token past (here li
 -- what is owed after a history. Of offers: they are on known sockets, under different tokens of their side; A offers only where B
 -- has; and B's link has a group. Of links: one that stands was not lost. Of links and ends: one that may move is on a link that
 -- its side has lost
-pub record Owed (setup : Setup) (payload : List ℕ) (past : List Entry) : Type 0 where
+pub record OwedToAgreement (setup : Setup) (payload : List ℕ) (past : List Entry) : Type 0 where
   -- Clc, on known sockets
   pub known : (x : Side) (s : ℕ) (o : Offered) → offered x s past ≡ Some o → s < setup.sockets
   -- Clc: an offer has the next token
@@ -30,8 +30,8 @@ pub record Owed (setup : Setup) (payload : List ℕ) (past : List Entry) : Type 
 
 -- after a history, and with each of its entries
 abbrev pub AllOwed : Setup → List ℕ → List Entry → Type 0
-AllOwed setup payload [] = Owed setup payload []
-AllOwed setup payload (e ∷ past) = Owed setup payload (e ∷ past) × (OffersGoOn e past × AllOwed setup payload past)
+AllOwed setup payload [] = OwedToAgreement setup payload []
+AllOwed setup payload (e ∷ past) = OwedToAgreement setup payload (e ∷ past) × (OffersGoOn e past × AllOwed setup payload past)
 
 -- the group of a socket's connection, or any where none was offered
 abbrev pub IsItsGroup : ℕ → ℕ → List Entry → Type 0

@@ -6,6 +6,7 @@ ghost use Rattle.lending_laws.specs.Reuse.{CarriesNoBytes};
 ghost use Rattle.link_laws.specs.Awaited.{AreOnKnown};
 ghost use Rattle.link_laws.specs.Lasting.{is_lost};
 ghost use Rattle.pipe_model.specs.Fabric.{has_ended};
+ghost use Rattle.pipe_model.specs.Keys.{AreBound};
 ghost use Rattle.pipe_model.specs.Lending.{RelendsOnlyDone, Lending, lendings, lent};
 ghost use Rattle.pipe_model.specs.Words.{element_size};
 ghost use Rattle.pipe_model.specs.declared.entry.Entry.{Entry};
@@ -36,4 +37,10 @@ pub fn lendings_are_always_done_with()
 /// bytes of its connection.
 pub fn no_bytes_ever_come_after_a_lending()
     ensures { (setup : Setup) (payload : List ℕ) (past : List Entry) (y : Side) (l : Lending) (link : LinkId) → IsMadeAll setup payload past → AreOnKnown setup past → IsAmong l (lendings y past) → (IsAmong l (lent setup payload y past) → ⊥) → has_ended y l.group past ≡ false → is_lost (other y) link past ≡ false → CarriesNoBytes (element_size setup) link (other y) l past }
+{}
+
+/// And no key is bound to another RMB before what it named is done with, in the words of a lawful
+/// step.
+pub fn no_key_is_ever_bound_again_too_early()
+    ensures { (setup : Setup) (payload : List ℕ) (x : Side) (e : Entry) (past : List Entry) → IsMadeAll setup payload (e ∷ past) → AreOnKnown setup past → AreBound x e past }
 {}

@@ -10,6 +10,7 @@ mod wires;
 
 pub use histories::{
     lendings_are_always_done_with, no_bytes_ever_come_after_a_lending,
-    no_element_is_ever_lent_again_too_early, wires_and_pipes_always_agree,
+    no_element_is_ever_lent_again_too_early, no_key_is_ever_bound_again_too_early,
+    wires_and_pipes_always_agree,
 };
 pub use wires::{the_first_message_is_the_next_of_one_end, wires_and_pipes_agree};

@@ -1,10 +1,13 @@
 -- Small facts that stand in many proofs: on truth values, sides, options and sums.
 use Rattle.std.proofs.Common.{Bool, List, None, Some, [], ap, arith, eqb-true, false, filter, if◌then◌else◌, inl, inr, map, not, refl, sym, true, true≢false, ℕ, ◌&&◌, ◌==◌, ◌||◌, ◌∙◌, ◌∷◌, ◌≡◌, ◌⊎◌}
-use Rattle.smc_num.specs.Places.{rmb_address}
 use Rattle.smc_num.specs.declared.LinkPhase.TheVariants.{Live as LiveLink}
 use Rattle.std.specs.Prelude.{Option, is_some, option_map, unwrap_or}
 use Rattle.pipe_model.specs.Parts.{actor}
-use Rattle.history_laws.specs.Words.{A, B, Dead, Entry, Event, Known, LinkId, LinkPhase, Pending, Post, Reply, Side, Unused, at_slot, is_live, is_standing, live_links, other, phase_at, rmb_at, same_link, same_side}
+use Rattle.history_laws.specs.Words.{A, B, Dead, Entry, Event, Known, LinkId, LinkPhase, Pending, Post, Reply, Side, Unused, at_slot, is_live, is_standing, live_links, other, phase_at, rmb_address, rmb_at, same_link, same_side}
+
+pub other-other : (x : Side) → other (other x) ≡ x
+other-other A = refl
+other-other B = refl
 
 pub by-bool : (P : Type 0) (b : Bool) → (b ≡ true → P) → (b ≡ false → P) → P
 by-bool P true f g = f refl

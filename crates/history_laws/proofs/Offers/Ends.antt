@@ -10,7 +10,7 @@ use Rattle.history_laws.specs.Offers.{HasStates, is_none, is_own_state}
 use Rattle.history_laws.proofs.Basics.{by-bool, or-left, or-none, or-parts, or-true}
 use Rattle.history_laws.proofs.Offers.StateChanges.{Answers, ByVerdict, Does, DoesBegin, DoesNothing, DoesTake, ForFault, NotTaken, answers, does, state-early, state-up, told-accept, used}
 use Rattle.history_laws.proofs.Offers.Offering.{NeverWaits, accepts-in}
-use Rattle.history_laws.specs.Made.{IsMadeAll, IsMadeAny}
+use Rattle.history_laws.specs.Made.{IsMadeAll, IsMade}
 
 -- an end that has none expects nothing
 pub none-expects : (x : Side) (s : ℕ) (past : List Entry) → is_none (early_state x s past) ≡ true → expects (end_state x s past) ≡ false
@@ -105,7 +105,7 @@ never-waits s past h = (λ e. at A WaitsProposal e refl refl, λ e. at B WaitsAn
     at : (x : Side) (st : EndState) → end_state x s past ≡ st → is_own_state x st ≡ false → is_own_state x IsUp ≡ true → ⊥
     at x st e f g = by-bool ⊥ (is_up x s past) (λ u. true≢false (sym g ∙ (ap (is_own_state x) (sym (state-up x s past u) ∙ e) ∙ f))) (λ u. true≢false (sym (h.own x) ∙ (ap (is_own_state x) (sym (state-early x s past u) ∙ e) ∙ f)))
 
-module _ (setup : Setup) (payload : List ℕ) (past : List Entry) (before : ℕ) (e : Entry) (made : IsMadeAny setup payload past before e) (s : ℕ) (h : HasStates s past) where
+module _ (setup : Setup) (payload : List ℕ) (past : List Entry) (before : ℕ) (e : Entry) (made : IsMade setup payload past before e) (s : ℕ) (h : HasStates s past) where
   -- A is never told that it sent an Accept
   no-accept-at-a : e.event ≡ ClcEvent s B → e.reply ≡ Sent AcceptSent → ⊥
   no-accept-at-a ev r = by (answers setup payload past before e made s B ev)

@@ -16,7 +16,7 @@ use Rattle.history_laws.specs.Posts.{AreFree, IsFree}
 use Rattle.history_laws.specs.Offers.{Accepts, Begins, BeginsNone, BeginsOne, Confirms, HasOffers, HasStates, NewLending, Offers, OffersAccept, OffersConfirm, OffersNone, accept_link, confirm_reply, is_early, is_none}
 use Rattle.history_laws.proofs.Basics.{by-bool, none-is, or-left, or-true}
 use Rattle.history_laws.proofs.Offers.StateChanges.{Does, DoesBegin, DoesNothing, DoesTake, does, state-early, state-up}
-use Rattle.history_laws.specs.Made.{IsMadeAll, IsMadeAny}
+use Rattle.history_laws.specs.Made.{IsMadeAll, IsMade}
 use Rattle.history_laws.proofs.Offers.Offering.{offers}
 use Rattle.history_laws.proofs.Offers.Ends.{never-waits, states}
 use Rattle.history_laws.proofs.Posts.{data-free}
@@ -185,7 +185,7 @@ front-in payload d s past m len r f = by (untaken d s past) (sym (ap (λ b. fron
     by [] g = cc
     by (n ∷ ms) g = inl (let w : n ≡ m = cc in sym w)
 
-module _ (setup : Setup) (payload : List ℕ) (past : List Entry) (before : ℕ) (e : Entry) (made : IsMadeAny setup payload past before e) (st : (s : ℕ) → HasStates s past) (off : (s : ℕ) → HasOffers s past) where
+module _ (setup : Setup) (payload : List ℕ) (past : List Entry) (before : ℕ) (e : Entry) (made : IsMade setup payload past before e) (st : (s : ℕ) → HasStates s past) (off : (s : ℕ) → HasOffers s past) where
   pub of-entry : Offers setup payload e past
   of-entry = offers setup payload past before e made (λ s. never-waits s past (st s))
 

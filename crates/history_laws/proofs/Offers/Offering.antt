@@ -3,7 +3,7 @@ use Rattle.clc_wire.specs.declared.message.ClcMessage.TheVariants.{Accept as Acc
 use Rattle.std.proofs.Common.{Bool, List, [], ap, false, if◌then◌else◌, not, refl, subst, sym, true, true≢false, ℕ, ◌&&◌, ◌++◌, ◌==◌, ◌∙◌, ◌∷◌, ◌≡◌}
 use Rattle.pipe_model.specs.declared.reply.Hold.TheVariants.{AddLink as AddLinkHold, ConfirmRkey as ConfirmRkeyHold, DeleteRkey as DeleteRkeyHold, FirstContact as FirstContactHold}
 use Rattle.pipe_model.specs.declared.reply.Lack.TheVariants.{Raw as RawLack}
-use Rattle.pipe_model.specs.Handshake.{on_confirm}
+use Rattle.pipe_model.specs.Handshake.{on_confirm, verdict}
 use Rattle.pipe_model.specs.declared.reply.SentKind.TheVariants.{Accept as AcceptSent, AddLink as AddLinkSent, Confirm as ConfirmKind, DeleteRkey as DeleteSent, ConfirmLink as LinkSent, TestLink as TestSent}
 use Rattle.pipe_model.specs.Lawful.{asked}
 use Rattle.pipe_model.specs.declared.event.Event.TheVariants.{Clc as ClcEvent, Raw, Write as WriteEvent}
@@ -12,8 +12,8 @@ use Rattle.pipe_model.specs.declared.reply.Reply.TheVariants.{Idle, Sent}
 use Rattle.pipe_model.specs.Fabric.{loses}
 use Rattle.std.specs.Prelude.{option_map}
 use Rattle.pipe_model.specs.Wires.{landing}
-use Rattle.history_laws.specs.Words.{A, Abort, AskKey, Await, B, ClcMessage, ClcStep, Close, Complete, Cut, Decline, Deliver, Done, EndState, Entry, Established, Event, Faulty, Fell, Finish, Front, GroupLost, Grow, HasFallen, Heal, Hold, IsUp, Lack, Lacks, Lost, Move, NoClientElement, NoEnd, NoMessage, NoServerElement, NoSlot, NoSubnet, Offer, OldGroup, Open, Opened, Post, Proposal, Read, Ready, Reply, Report, SendAccept, SendConfirm, Setup, Side, Swallow, Test, Trim, Wait, WaitsAnswer, WaitsConfirm, WaitsLink, WaitsProposal, WasReset, Whole, Wrong, accept_post, act_of, clc_posts, clc_step, clc_told, connection_posts, draft, end_state, expects, first_contact_step, flow_of, front, front_posts, front_told, group_on, is_asked, is_deleting, is_raw, key_step, lacks, on_accept, on_first_accept, on_later_accept, on_proposal, other, peer_of, reply_of, step_told, verdict}
-use Rattle.history_laws.specs.Made.{IsMadeAny}
+use Rattle.history_laws.specs.Words.{A, Abort, AskKey, Await, B, ClcMessage, ClcStep, Close, Complete, Cut, Decline, Deliver, Done, EndState, Entry, Established, Event, Faulty, Fell, Finish, Front, GroupLost, Grow, HasFallen, Heal, Hold, IsUp, Lack, Lacks, Lost, Move, NoClientElement, NoEnd, NoMessage, NoServerElement, NoSlot, NoSubnet, Offer, OldGroup, Open, Opened, Post, Proposal, Read, Ready, Reply, Report, SendAccept, SendConfirm, Setup, Side, Swallow, Test, Trim, Wait, WaitsAnswer, WaitsConfirm, WaitsLink, WaitsProposal, WasReset, Whole, Wrong, accept_post, act_of, clc_posts, clc_step, clc_told, connection_posts, draft, end_state, expects, first_contact_step, flow_of, front, front_posts, front_told, group_on, is_asked, is_deleting, is_raw, key_step, lacks, on_accept, on_first_accept, on_later_accept, on_proposal, other, peer_of, reply_of, step_told}
+use Rattle.history_laws.specs.Made.{IsMade}
 use Rattle.history_laws.specs.Posts.{AreData, AreFree}
 use Rattle.history_laws.proofs.Posts.{act-free, connections-data, data-free, free-append, loss-free, ready-free}
 use Rattle.history_laws.specs.Offers.{Offers, OffersAccept, OffersConfirm, OffersNone, accept_link, confirm_reply}
@@ -120,7 +120,7 @@ confirms-in raw (WasReset cause) m l e = absurd (true≢false (sym e))
 abbrev pub NeverWaits : ℕ → List Entry → Type 0
 NeverWaits s past = ((end_state A s past ≡ WaitsProposal) → ⊥) × ((end_state B s past ≡ WaitsAnswer) → ⊥)
 
-module _ (setup : Setup) (payload : List ℕ) (past : List Entry) (before : ℕ) (e : Entry) (made : IsMadeAny setup payload past before e) where
+module _ (setup : Setup) (payload : List ℕ) (past : List Entry) (before : ℕ) (e : Entry) (made : IsMade setup payload past before e) where
   abbrev more : List Post
   more = connection_posts setup payload (draft setup payload past before e.event) past
 

@@ -8,7 +8,7 @@ use Rattle.pipe_model.specs.Replies.{told}
 use Rattle.std.specs.Prelude.{slice_index_or}
 use Rattle.history_laws.specs.Words.{A, Abort, AskKey, Await, B, BadClc, ClcFault, ClcMessage, ClcStep, Close, Complete, Cut, Decline, Declined, Deliver, EndState, Entry, Established, Event, Faulty, Fell, Finish, Front, Grow, HasFallen, Heal, IsUp, Lost, Move, NameUsed, NoEnd, NoMessage, NotCapable, Open, Opened, Read, Ready, Reply, Report, Reset, SendAccept, SendConfirm, Setup, Side, Swallow, Test, Trim, Wait, WaitsAnswer, WaitsConfirm, WaitsLink, WaitsProposal, WasReset, Whole, Wrong, Wrote, after_clc, after_event, after_raw, clc_step, clc_told, early_state, end_state, expects, front, front_told, group_on, is_opened, is_raw, is_up, other, reply_of, step_told}
 use Rattle.history_laws.proofs.Offers.Offering.{sends-accept}
-use Rattle.history_laws.specs.Made.{IsMadeAny}
+use Rattle.history_laws.specs.Made.{IsMade}
 use Rattle.history_laws.specs.Offers.{is_none}
 use Rattle.history_laws.proofs.Basics.{by-bool}
 
@@ -46,7 +46,7 @@ told-accept group (DeclineMessage r) Ready e = cc
 told-accept group m Lost e = cc
 told-accept group m (Wrong kind) e = cc
 
-module _ (setup : Setup) (payload : List ℕ) (past : List Entry) (before : ℕ) (e : Entry) (made : IsMadeAny setup payload past before e) where
+module _ (setup : Setup) (payload : List ℕ) (past : List Entry) (before : ℕ) (e : Entry) (made : IsMade setup payload past before e) where
   pub answers : (s : ℕ) (dir : Side) → e.event ≡ ClcEvent s dir → Answers setup payload s dir past e.reply
   answers s dir ev = by (expects (end_state (other dir) s past)) refl
     where
@@ -72,7 +72,7 @@ pub data Does (x : Side) (s : ℕ) (e : Entry) (state : EndState) (new : EndStat
   DoesTake : e.event ≡ ClcEvent s (other x) → new ≡ after_clc e.reply state → Does x s e state new
   DoesBegin : is_none state ≡ true → x ≡ B → new ≡ WaitsProposal → Does x s e state new
 
-module _ (setup : Setup) (payload : List ℕ) (past : List Entry) (before : ℕ) (e : Entry) (made : IsMadeAny setup payload past before e) (s : ℕ) (known : (is_opened s past || is_raw s past) ≡ true) where
+module _ (setup : Setup) (payload : List ℕ) (past : List Entry) (before : ℕ) (e : Entry) (made : IsMade setup payload past before e) (s : ℕ) (known : (is_opened s past || is_raw s past) ≡ true) where
   pub does : (x : Side) (state : EndState) → Does x s e state (after_event x s e.event e.reply state)
   does x state = by e.event refl
     where

@@ -16,7 +16,7 @@ use Rattle.pipe_model.specs.declared.reply.Reply.TheVariants.{Idle, Sent}
 use Rattle.pipe_model.specs.Wires.{landing}
 use Rattle.history_laws.specs.Words.{A, Abandoned, Abort, Act, AddSeen, AddSent, AskKey, AskLink, Await, B, Cdc, ClcMessage, ClcStep, Close, Complete, Cut, Decline, Deleting, Deliver, Done, Echo, Entry, Event, Faulty, Fell, Finish, FirstContact, Flow, FlowStep, Forget, Front, Gone, Grow, Heal, Key, KeyPhase, Keys, KeysSent, Lack, Learn, LinkFlow, LinkId, Llc, LlcMessage, Lost, Move, NoFlow, NoMessage, Offer, Open, Opened, Over, Peer, Post, Proposal, Read, Ready, Refusal, Reject, Reply, ReplyAdd, ReplyKeys, ReplyRetry, Report, Retry, SendAccept, SendConfirm, SendKeys, Setup, Side, Skip, Swallow, Test, Trim, Wait, Whole, Withdraw, Wrong, act_of, act_posts, add_again, clc_in, clc_posts, clc_step, connection_posts, deleting_rmbs, draft, drop_posts, flow_of, front, front_posts, gives_up, group_on, is_dropping, key_again, keys_of, loss_posts, named_link, named_slot, new_offer, no_link, other, peer_of, proposal, ready_posts, refusal, resends_add, resends_key, step_posts, step_told}
 use Rattle.history_laws.specs.Posts.{AreData}
-use Rattle.history_laws.specs.Made.{IsMadeAny}
+use Rattle.history_laws.specs.Made.{IsMade}
 use Rattle.history_laws.specs.Lists.{IsAmong}
 use Rattle.history_laws.proofs.Offers.Offering.{posts-are}
 use Rattle.history_laws.proofs.Posts.{connections-data}
@@ -115,7 +115,7 @@ data-silent (Cdc from link n ∷ ps) a = (tt, data-silent ps a.1)
 data-silent (Llc from link n ∷ ps) a = (let w : false ≡ true = a.0 in cc)
 data-silent (Clc from t link n ∷ ps) a = (let w : false ≡ true = a.0 in cc)
 
-module _ (setup : Setup) (payload : List ℕ) (past : List Entry) (before : ℕ) (e : Entry) (made : IsMadeAny setup payload past before e) (s : ℕ) where
+module _ (setup : Setup) (payload : List ℕ) (past : List Entry) (before : ℕ) (e : Entry) (made : IsMade setup payload past before e) (s : ℕ) where
   one-message : (t : ℕ) (n m : ClcMessage) → IsAmong m (cons_option (if s == t then Some n else None) []) → (s ≡ t) × (m ≡ n)
   one-message t n m i = by (s == t) refl i
     where

@@ -3,8 +3,9 @@ use Rattle.std.proofs.Common.{Bool, List, [], ap, arith, eqb-true, false, filter
 use Rattle.pipe_model.specs.declared.post.Post.TheVariants.{Clc}
 use Rattle.std.specs.Prelude.{Some, nat_lt, unwrap_or}
 use Rattle.clc_wire.specs.declared.message.ClcMessage.TheVariants.{Accept as AcceptMessage, Confirm as ConfirmMessage}
+use Rattle.pipe_model.specs.Handshake.{verdict}
 use Rattle.pipe_model.specs.Posts.{begins_group_in}
-use Rattle.history_laws.specs.Words.{A, B, Entry, Known, LinkId, Offer, Pending, Post, Setup, Side, WaitsProposal, accept_post, confirm_post, fabric, group_of, groups_begun, has_ended, is_raw, lacks, loses_group_with, named_link, new_offer, no_link, peer, put, stands, table_of, verdict}
+use Rattle.history_laws.specs.Words.{A, B, Entry, Known, LinkId, Offer, Pending, Post, Setup, Side, WaitsProposal, accept_post, confirm_post, fabric, group_of, groups_begun, has_ended, is_raw, lacks, loses_group_with, named_link, new_offer, no_link, peer, put, stands, table_of}
 use Rattle.history_laws.specs.Posts.{AreData, AreFree, IsFree, is_data}
 use Rattle.history_laws.specs.Lists.{IsAmong}
 use Rattle.history_laws.specs.Made.{IsMadeAll}

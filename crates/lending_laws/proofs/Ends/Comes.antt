@@ -3,17 +3,18 @@ use Rattle.std.proofs.Common.{Bool, List, [], ap, eq-eqb, eqb-true, false, fold,
 use Rattle.std.specs.Prelude.{None, Option, Some, option_and_then, option_map}
 use Rattle.smc_num.specs.declared.LinkPhase.TheVariants.{Live as LiveLink}
 use Rattle.clc_wire.specs.declared.message.ClcMessage.TheVariants.{Accept as AcceptMessage, Confirm as ConfirmMessage, Decline as DeclineMessage, Proposal as ProposalMessage}
+use Rattle.pipe_model.specs.Handshake.{verdict}
 use Rattle.pipe_model.specs.declared.reply.Reply.TheVariants.{Idle, Sent}
 use Rattle.pipe_model.specs.declared.reply.SentKind.TheVariants.{Accept as AcceptSent, Confirm as ConfirmSent, ConfirmLink as LinkSent}
 use Rattle.pipe_model.specs.declared.event.Event.TheVariants.{Clc as ClcEvent}
 use Rattle.pipe_model.specs.Fabric.{does}
 use Rattle.pipe_model.specs.declared.flow.FlowStep.TheVariants.{Live}
 use Rattle.pipe_model.specs.Connections.{comes_up}
-use Rattle.history_laws.specs.Words.{A, Act, B, BadClc, BadStep, ClcMessage, Dead, Declined, EndState, Entry, Established, Fabric, FellBack, FlowStep, HasFallen, Held, IsUp, Lacks, LinkId, LinkPhase, Lost, NoEnd, NoLiveLink, Offer, Offered, Pending, Ready, Reset, SendConfirm, Setup, Side, Unused, WaitsAnswer, WaitsConfirm, WaitsLink, WaitsProposal, WasReset, Whole, Wrong, act_in, confirm_post, confirmed_by, early_state, end_state, fabric, fewest, flow_of, front, group_of, group_on, has_link, is_first_contact, is_first_on, is_raw, is_standing, is_up, lacks, lent, lighter, lightest, link_now, live_links, load, new_offer, offered, on_accept, other, peer, phase_at, same_link, set_phase, stands, step_told, table_of, verdict}
+use Rattle.history_laws.specs.Words.{A, Act, B, BadClc, BadStep, ClcMessage, Dead, Declined, EndState, Entry, Established, Fabric, FellBack, FlowStep, HasFallen, Held, IsUp, Lacks, LinkId, LinkPhase, Lost, NoEnd, NoLiveLink, Offer, Offered, Pending, Ready, Reset, SendConfirm, Setup, Side, Unused, WaitsAnswer, WaitsConfirm, WaitsLink, WaitsProposal, WasReset, Whole, Wrong, act_in, confirm_post, confirmed_by, early_state, end_state, fabric, fewest, flow_of, front, group_of, group_on, has_link, is_first_contact, is_first_on, is_raw, is_standing, is_up, lacks, lent, lighter, lightest, link_now, live_links, load, new_offer, offered, on_accept, other, peer, phase_at, same_link, set_phase, stands, step_told, table_of}
 use Rattle.history_laws.proofs.Basics.{by-bool, none-is, or-left, or-true, some-is, some-live}
 use Rattle.history_laws.proofs.Offers.{Answers, ByVerdict, ForFault, NotTaken, accept-is, accept-step, accepts-in, all-offers, answers, front-in, kept, new-or-old, of-entry, proposal-step, sends-accept, state-early, state-up, states}
 use Rattle.history_laws.specs.Offers.{HasOffers, HasStates, NewLending, Offers, OffersAccept, OffersConfirm, OffersNone, accept_link, confirm_reply, is_none, is_own_state}
-use Rattle.history_laws.specs.Made.{IsMadeAll, IsMadeAny}
+use Rattle.history_laws.specs.Made.{IsMadeAll, IsMade}
 use Rattle.history_laws.specs.Lists.{IsAmong}
 use Rattle.link_laws.proofs.Sound.{at-stands, has-group, link-self, set-here, set-link, stands-at}
 use Rattle.link_laws.specs.Linked.{AreLinked, AreTogether, Begins, Confirms, Goes, HasNone, IsOwn, IsSound, Under, phases, slot_fits}
@@ -125,7 +126,7 @@ same-first setup payload (e ∷ past) m s o p i j = by m.0.0 m.0.1 (same-first s
     offs : (t : ℕ) → HasOffers t past
     offs = all-offers setup payload past m.1
 
-    by : (before : ℕ) → IsMadeAny setup payload past before e → ((p : Offered) → offered A s past ≡ Some o → offered B s past ≡ Some p → p.offer.first ≡ o.offer.first) → p.offer.first ≡ o.offer.first
+    by : (before : ℕ) → IsMade setup payload past before e → ((p : Offered) → offered A s past ≡ Some o → offered B s past ≡ Some p → p.offer.first ≡ o.offer.first) → p.offer.first ≡ o.offer.first
     by before made was = at (new-or-old setup payload past before e made (states setup payload past m.1) offs A s)
       where
         b-is : (t : ℕ) (q : Offered) → s ≡ t → offered B t past ≡ Some q → p ≡ q

@@ -10,14 +10,14 @@ use Rattle.history_laws.specs.Lists.{IsAmong}
 use Rattle.history_laws.specs.Tables.{Rises}
 use Rattle.history_laws.proofs.Basics.{link-is, none-is, some-is}
 use Rattle.link_laws.specs.Linked.{Begins, Confirms, Goes, HasNone, IsSound}
-use Rattle.link_laws.specs.KeyChanges.{AreKeys, AsksKey, ForAsked, ForMade, ForOffer, ForTold, Registers, link_named}
+use Rattle.link_laws.specs.KeyChanges.{AreKeys, AsksKey, ForAsked, ForMade, ForOffer, ForTold, Registers, link_named, told_of}
 use Rattle.link_laws.specs.Covered.{HasKey, OwedByAnswers}
 use Rattle.link_laws.proofs.Keys.{act-goes, filter-are, fold-goes, fold-reaches, keys-after, keys-are, not-alike, of-use, posts-reach, registers-are, stays-beside, taken}
 use Rattle.link_laws.specs.Learnt.{OwedByLinks}
 use Rattle.link_laws.proofs.Fabric.{taken-key}
 use Rattle.lending_laws.proofs.Keys.Covered.{has-new, has-stays}
 use Rattle.lending_laws.proofs.Keys.Learnt.{known-at}
-use Rattle.lending_laws.specs.Asked.{AreAsked, AsksOn, OwedByRequests, told_of}
+use Rattle.lending_laws.specs.Asked.{AreAsked, AsksOn, OwedByRequests}
 
 -- no key flow is asked and deleting at once
 pub not-both : (key : KeyPhase) → is_asked key ≡ true → is_deleting key ≡ true → ⊥

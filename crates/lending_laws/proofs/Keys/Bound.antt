@@ -2,10 +2,10 @@
 use Rattle.std.proofs.Common.{Bool, List, None, Some, [], ap, eq-eqb, eqb-true, false, filter, if◌then◌else◌, inl, inr, not, refl, subst, sym, true, true≢false, ℕ, ◌&&◌, ◌++◌, ◌==◌, ◌∙◌, ◌∷◌, ◌≡◌, ◌⊎◌}
 use Rattle.std.specs.Prelude.{All, IsTrue, Option, filter_map, find, option_map}
 use Rattle.std.proofs.lemmas.List.Elements.{All-cons, All-nil}
-use Rattle.pipe_model.specs.Keys.{AreBound, Binding, IsRebound, deleted, if_group, last_binding, owing}
+use Rattle.pipe_model.specs.Keys.{IsRebound, deleted, if_group, owing}
 use Rattle.std.specs.Option.{option_or}
 use Rattle.pipe_model.specs.Lending.{is_gone}
-use Rattle.history_laws.specs.Words.{A, B, Entry, Key, Keys, Lending, LinkId, Setup, Side, Withdraw, group_of, has, has_ended, is_done_with, is_used, key_base, keys_of, lendings, lends, loses_group_with, named_rmbs, no_keys}
+use Rattle.history_laws.specs.Words.{A, AreBound, B, Binding, Entry, Key, Keys, Lending, LinkId, Setup, Side, Withdraw, group_of, has, has_ended, is_done_with, is_used, key_base, keys_of, last_binding, lendings, lends, loses_group_with, named_rmbs, no_keys}
 use Rattle.history_laws.specs.Lists.{IsAmong}
 use Rattle.history_laws.proofs.Basics.{and-both, and-true, none-is, not-true, or-left, or-true, some-is}
 use Rattle.link_laws.specs.KeyChanges.{AreKeys, Goes, GroupGoes, HasUse, Registers, Withdrawn}
@@ -104,7 +104,7 @@ binding-is x (f ∷ past) k b i e = by (find (λ (j : Key). j.key == k.key) (key
         (ap (λ (c : Binding). c.rmb) (sym r) ∙ ap (λ (j : Key). j.rmb) same, ap (λ (c : Binding). c.begun) (sym r))
 
 -- that of a number that isn't bound is the earlier one
-binding-was : (x : Side) (e : Entry) (past : List Entry) (n : ℕ) → is_used n (keys_of x (e ∷ past)).keys ≡ false → last_binding x n (e ∷ past) ≡ last_binding x n past
+pub binding-was : (x : Side) (e : Entry) (past : List Entry) (n : ℕ) → is_used n (keys_of x (e ∷ past)).keys ≡ false → last_binding x n (e ∷ past) ≡ last_binding x n past
 binding-was x e past n free = by (find (λ (j : Key). j.key == n) (keys_of x (e ∷ past)).keys) refl
   where
     by : (o : Option Key) → find (λ (j : Key). j.key == n) (keys_of x (e ∷ past)).keys ≡ o

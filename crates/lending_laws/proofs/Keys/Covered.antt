@@ -2,8 +2,8 @@
 use Rattle.std.proofs.Common.{Bool, List, None, Some, [], ap, arith, cond, eqb-true, false, inl, inr, not, refl, subst, sym, true, ℕ, ◌+◌, ◌==◌, ◌∙◌, ◌∷◌, ◌≡◌, ◌≤◌, ◌⊎◌}
 use Rattle.std.specs.Prelude.{option_map, unwrap_or}
 use Rattle.pipe_model.specs.declared.flow.FlowStep.TheVariants.{Confirmed}
-use Rattle.pipe_model.specs.Keys.{deleted}
-use Rattle.history_laws.specs.Words.{A, Act, B, Entry, FlowStep, Key, Keys, Known, LinkId, ReplyAdd, SendKeys, Side, Withdraw, act_in, at_slot, confirms, fabric, flow_of, has, key_base, keys_of, link_at, link_or_none, named_rmbs, named_slot, no_link, peer, registers, registers_all, rmb_at, table_of, token_rmb, withdraws}
+use Rattle.pipe_model.specs.Keys.{confirms, deleted}
+use Rattle.history_laws.specs.Words.{A, Act, B, Entry, FlowStep, Key, Keys, Known, LinkId, ReplyAdd, SendKeys, Side, Withdraw, act_in, at_slot, fabric, flow_of, has, key_base, keys_of, link_at, link_or_none, named_rmbs, named_slot, no_link, peer, registers, registers_all, rmb_at, table_of, token_rmb, withdraws}
 use Rattle.history_laws.specs.Lists.{IsAmong}
 use Rattle.history_laws.specs.Tables.{Rises}
 use Rattle.history_laws.proofs.Basics.{none-is, some-is}

@@ -9,7 +9,7 @@ use Rattle.history_laws.proofs.Basics.{none-is, some-is}
 use Rattle.history_laws.specs.Lists.{IsAmong}
 use Rattle.link_laws.proofs.Sound.{found-slot, has-group, stands-at}
 use Rattle.link_laws.proofs.Keys.{book-from, book-none, confirmed-from, confirmed-none, not-alike, withdrawn-from}
-use Rattle.link_laws.specs.Learnt.{AreExact, AreKnown, AreMade, AreTold, Begins, IsNear, NewGroup, NoGroup, OwedByLinks, OwedByMessages, Regroups, SameGroup}
+use Rattle.link_laws.specs.Learnt.{AreExact, AreKnown, AreMade, AreTold, BeginsFirst, IsNear, NewGroup, NoGroup, OwedByLinks, OwedByMessages, Regroups, SameGroup}
 use Rattle.link_laws.specs.KeyChanges.{ByAnswer, ByOffer, Confirms, ForAsked, ForMade, ForOffer, ForTold, GroupGoes, Registers, Withdrawn}
 use Rattle.link_laws.proofs.Fabric.{one-learns, one-step}
 use Rattle.link_laws.specs.FabricChanges.{Takes}
@@ -70,7 +70,7 @@ module _ (x : Side) (e : Entry) (past : List Entry) (links : OwedByLinks e past)
           (h.0, sym (t.same l.slot) ∙ h.1)
 
   -- what is registered for its slot is registered for it, but in first contact
-  pub registers-near : (l : LinkId) → IsNear x l (e ∷ past) → (Begins x e → ⊥) → (rmb : ℕ) (link : LinkId) → Registers x e past rmb link → l.slot ≡ link.slot → link ≡ l
+  pub registers-near : (l : LinkId) → IsNear x l (e ∷ past) → (BeginsFirst x e → ⊥) → (rmb : ℕ) (link : LinkId) → Registers x e past rmb link → l.slot ≡ link.slot → link ≡ l
   registers-near l near later _ _ (ForMade rmb t i) s = let h = near-at l near in named-is _ (table_of x (e ∷ past)) l (rises x) h.1 h.0 s
   registers-near l near later _ _ (ForTold rmb t i) s = let h = near-at l near in named-is _ (table_of x (e ∷ past)) l (rises x) h.1 h.0 s
   registers-near l near later _ _ (ForOffer link o it) s = absurd (later (record { link = link; offer = o; offers = it }))
@@ -78,7 +78,7 @@ module _ (x : Side) (e : Entry) (past : List Entry) (links : OwedByLinks e past)
       let h = near-at l near in sym (some-is l link (sym h.1 ∙ (ap (λ j. link_at j (table_of x (e ∷ past))) s ∙ (known-at 1 link (table_of x (e ∷ past)) (rises x) known).1)))
 
   -- the group of a side with keys was the same before, but in first contact
-  group-was : (z : Side) → (Begins z e → group_of z past ≡ 0 → ⊥) → (group_of z (e ∷ past) ≡ 0 → ⊥) → group_of z (e ∷ past) ≡ group_of z past
+  group-was : (z : Side) → (BeginsFirst z e → group_of z past ≡ 0 → ⊥) → (group_of z (e ∷ past) ≡ 0 → ⊥) → group_of z (e ∷ past) ≡ group_of z past
   group-was z later some = by (links.groups z)
     where
       by : Regroups z e past → group_of z (e ∷ past) ≡ group_of z past
@@ -123,7 +123,7 @@ module _ (x : Side) (e : Entry) (past : List Entry) (links : OwedByLinks e past)
     | inr by ↦ confirms k.rmb by refl
   ]
     where
-      later : Begins x e → ⊥
+      later : BeginsFirst x e → ⊥
       later new = owed.first new k i near
 
       some : group_of x (e ∷ past) ≡ 0 → ⊥

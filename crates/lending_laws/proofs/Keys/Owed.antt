@@ -1,16 +1,16 @@
 -- The whole of a side's keys over every history, from what other subjects owe; and the law of bound keys with it.
 use Rattle.std.proofs.Common.{Bool, List, None, Some, [], ap, arith, false, inl, inr, refl, subst, sym, take, true, true≢false, ℕ, ◌∙◌, ◌∷◌, ◌≡◌, ◌≤◌, ◌⊎◌}
 use Rattle.std.specs.Prelude.{Option, filter_map, option_map, unwrap_or}
-use Rattle.pipe_model.specs.Keys.{AreBound, new_key, token_key}
+use Rattle.pipe_model.specs.Keys.{new_key, token_key}
 use Rattle.std.specs.List.{cons_option}
 use Rattle.pipe_model.specs.declared.flow.FlowStep.TheVariants.{Confirmed}
 use Rattle.pipe_model.specs.Fabric.{does}
-use Rattle.history_laws.specs.Words.{A, Act, AddKeys, AddLink, AskLink, B, ConfirmLink, ConfirmRkey, DeleteLink, DeleteRkey, Entry, FlowStep, Key, KeyToken, Known, LinkId, LlcMessage, NewKey, ReplyKeys, Setup, Side, TestLink, act_in, at_slot, book_of, fabric, flow_of, group_of, keys_of, known_rmb, link_at, link_or_none, made_on, named_slot, no_link, other, peer, rmb_at, stands, table_of}
+use Rattle.history_laws.specs.Words.{A, Act, AddKeys, AddLink, AreBound, AskLink, B, ConfirmLink, ConfirmRkey, DeleteLink, DeleteRkey, Entry, FlowStep, Key, KeyToken, Known, LinkId, LlcMessage, NewKey, ReplyKeys, Setup, Side, TestLink, act_in, at_slot, book_of, fabric, flow_of, group_of, keys_of, known_rmb, link_at, link_or_none, made_on, named_slot, no_link, other, peer, rmb_at, stands, table_of}
 use Rattle.history_laws.specs.Lists.{IsAmong}
 use Rattle.history_laws.proofs.Basics.{none-is, some-is}
 use Rattle.link_laws.specs.Linked.{AreLinked, Under}
 use Rattle.link_laws.specs.Moves.{OwedByMoves}
-use Rattle.link_laws.specs.Learnt.{Begins, IsNear, NewGroup, NoGroup, OwedByLinks, Regroups, SameGroup}
+use Rattle.link_laws.specs.Learnt.{BeginsFirst, IsNear, NewGroup, NoGroup, OwedByLinks, Regroups, SameGroup}
 use Rattle.link_laws.proofs.Fabric.{fabric-taken, is_rkey, moves, table-confirmed, taken-key}
 use Rattle.link_laws.specs.FabricChanges.{Takes}
 use Rattle.link_laws.specs.Covered.{AreCovered, HasKey, wants_keys}
@@ -47,10 +47,10 @@ new-link on link book (u ∷ us) k i = by (known_rmb u.reference on book) i (λ 
     by (Some rmb) (inr h) rest = rest h
 
 -- what links and groups owe, from what an entry does to the fabric
-pub links-owed : (e : Entry) (past : List Entry) (under : Option Under) → AreLinked (fabric (e ∷ past)) under → OwedByMoves e past → ((z : Side) → Begins z e → group_of z past ≡ 0) → OwedByLinks e past
+pub links-owed : (e : Entry) (past : List Entry) (under : Option Under) → AreLinked (fabric (e ∷ past)) under → OwedByMoves e past → ((z : Side) → BeginsFirst z e → group_of z past ≡ 0) → OwedByLinks e past
 links-owed e past under linked owed none = record { under = under; linked = linked; fresh = (moves e past owed).fresh; made = (moves e past owed).made; groups = λ z. by z ((moves e past owed).groups z) }
   where
-    by : (z : Side) → (group_of z (e ∷ past) ≡ group_of z past) ⊎ ((group_of z (e ∷ past) ≡ 0) ⊎ Begins z e) → Regroups z e past
+    by : (z : Side) → (group_of z (e ∷ past) ≡ group_of z past) ⊎ ((group_of z (e ∷ past) ≡ 0) ⊎ BeginsFirst z e) → Regroups z e past
     by z (inl same) = SameGroup same
     by z (inr (inl zero)) = NoGroup zero
     by z (inr (inr new)) = NewGroup new (none z new)

@@ -1,8 +1,8 @@
 -- Keys for a new link (ADD LINK CONTINUATION): as they are posted they are bound, they stay so while no keys are withdrawn, and their taker reads them right.
 use Rattle.std.proofs.Common.{Bool, List, Some, [], ap, eqb-true, false, filter, inl, inr, length, map, refl, subst, sym, take, true, true≢false, ℕ, ◌==◌, ◌∙◌, ◌∷◌, ◌≡◌}
-use Rattle.pipe_model.specs.Messages.{key_on, new_key_of, no_new_key, padded}
+use Rattle.pipe_model.specs.Messages.{new_key_of, no_new_key, padded}
 use Rattle.smc_num.specs.Keys.{is_named}
-use Rattle.history_laws.specs.Words.{AddKeys, Entry, Key, LinkId, NewKey, Side, Withdraw, book_of, flow_of, group_of, head, is_deleting, keys_of, known_rmb, other, same_link, stands, table_of}
+use Rattle.history_laws.specs.Words.{AddKeys, Entry, Key, LinkId, NewKey, Side, Withdraw, book_of, flow_of, group_of, head, is_deleting, key_on, keys_of, known_rmb, other, same_link, stands, table_of}
 use Rattle.history_laws.specs.Lists.{IsAmong}
 use Rattle.history_laws.proofs.Basics.{and-both, link-is, none-is, rmb-of, some-is}
 use Rattle.link_laws.specs.KeyChanges.{GroupGoes, HasUse, Withdrawn}

@@ -1,11 +1,10 @@
 -- A CONFIRM RKEY tells bound keys: as it is posted, as long as its answer is awaited, and as its taker reads them.
 use Rattle.std.proofs.Common.{Bool, List, None, Some, [], ap, inl, inr, length, map, not, refl, subst, suc, sym, take, true, true≢false, zero, ℕ, ◌++◌, ◌==◌, ◌∙◌, ◌∷◌, ◌≡◌}
-use Rattle.pipe_model.specs.Messages.{confirm_rkey, key_on, key_reply, no_token, other_slots, token_for}
 use Rattle.std.specs.Prelude.{Option, filter_map, find, option_map, unwrap_or}
 use Rattle.pipe_model.specs.Keys.{token_key, token_keys}
 use Rattle.std.specs.List.{cons_option}
-use Rattle.smc_num.specs.Places.{rmb_address}
-use Rattle.history_laws.specs.Words.{AddKeys, AddLink, ConfirmLink, ConfirmRkey, DeleteLink, DeleteRkey, Entry, Key, KeyToken, Known, Learn, LinkId, LlcMessage, Side, TestLink, Withdraw, at_slot, book_of, flow_of, group_of, is_asked, is_for, keys_of, link_at, rmb_at, table_of}
+use Rattle.pipe_model.specs.Messages.{confirm_rkey, no_token, other_slots, token_for}
+use Rattle.history_laws.specs.Words.{AddKeys, AddLink, ConfirmLink, ConfirmRkey, DeleteLink, DeleteRkey, Entry, Key, KeyToken, Known, Learn, LinkId, LlcMessage, Side, TestLink, Withdraw, at_slot, book_of, flow_of, group_of, is_asked, is_for, key_on, key_reply, keys_of, link_at, rmb_address, rmb_at, table_of}
 use Rattle.history_laws.specs.Lists.{IsAmong}
 use Rattle.history_laws.proofs.Basics.{none-is, rmb-of, some-is}
 use Rattle.link_laws.specs.KeyChanges.{GroupGoes, HasUse, Withdrawn, told_by, told_keys}

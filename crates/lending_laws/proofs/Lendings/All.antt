@@ -5,11 +5,12 @@ use Rattle.std.specs.Prelude.{Some, is_some, option_map, unwrap_or}
 use Rattle.clc_wire.specs.declared.message.ClcMessage.TheVariants.{Accept as AcceptMessage, Confirm as ConfirmMessage, Decline as DeclineMessage, Proposal as ProposalMessage}
 use Rattle.pipe_model.proofs.ToldLast.{over-has-told}
 use Rattle.pipe_model.specs.declared.event.Event.TheVariants.{Clc as ClcEvent}
+use Rattle.pipe_model.specs.Handshake.{verdict}
 use Rattle.pipe_model.specs.declared.reply.Reply.TheVariants.{Sent}
 use Rattle.pipe_model.specs.declared.reply.SentKind.TheVariants.{ConfirmLink as LinkSent}
 use Rattle.pipe_model.specs.Connections.{comes_up}
-use Rattle.history_laws.specs.Words.{A, B, ClcFault, ClcMessage, EndState, Entry, Established, Faulty, HasFallen, RelendsOnlyDone, IsUp, Lending, LinkId, Lost, NoEnd, Offer, Offered, Ready, Setup, Side, WaitsAnswer, WaitsConfirm, WaitsLink, WaitsProposal, WasReset, after_clc, after_event, after_loss, early_state, element_size, end_state, expects, front, front_of, gives_up, group_of, group_on, half, has_ended, head, is_opened, is_out, is_over, is_raw, is_up, lacks, lendings, lends_by, lent, loses_group_with, new_offer, offered, other, part, pipe_of, step_told, stream, terms_of, untaken, verdict}
-use Rattle.history_laws.specs.Made.{IsMadeAll, IsMadeAny}
+use Rattle.history_laws.specs.Words.{A, B, ClcFault, ClcMessage, EndState, Entry, Established, Faulty, HasFallen, RelendsOnlyDone, IsUp, Lending, LinkId, Lost, NoEnd, Offer, Offered, Ready, Setup, Side, WaitsAnswer, WaitsConfirm, WaitsLink, WaitsProposal, WasReset, after_clc, after_event, after_loss, early_state, element_size, end_state, expects, front, front_of, gives_up, group_of, group_on, half, has_ended, head, is_opened, is_out, is_over, is_raw, is_up, lacks, lendings, lends_by, lent, loses_group_with, new_offer, offered, other, part, pipe_of, step_told, stream, terms_of, untaken}
+use Rattle.history_laws.specs.Made.{IsMadeAll, IsMade}
 use Rattle.history_laws.specs.Offers.{HasOffers, HasStates, HasStream, IsProposed, NewLending, NoProposal, is_early, is_none}
 use Rattle.history_laws.proofs.Offers.{Answers, ByVerdict, Does, DoesBegin, DoesNothing, DoesTake, ForFault, NotTaken, all-offers, answers, does, front-in, new-or-old, not-none, opens-new, state-early, state-up, states, taken-as}
 use Rattle.history_laws.proofs.Basics.{by-bool, none-is, or-left, or-none, or-parts, or-true, some-is}
@@ -52,7 +53,7 @@ no-fault payload d s past fault r f = by (untaken d s past) (sym (ap (λ b. fron
     by (n ∷ ms) g = cc
 
 module _ (setup : Setup) (payload : List ℕ) (e : Entry) (past : List Entry) (m : IsMadeAll setup payload (e ∷ past)) (with_it : OwedWith e past) (w : OwedLendings setup payload past) (s : ℕ) (h : HasStream s past) where
-  abbrev one : (before : ℕ) × IsMadeAny setup payload past before e
+  abbrev one : (before : ℕ) × IsMade setup payload past before e
   one = m.0
 
   abbrev st : HasStates s past
@@ -213,14 +214,14 @@ all-owed setup payload (e ∷ past) m b =
 
 -- lendings, their end and reuse, from five premises
 module _ (setup : Setup) (payload : List ℕ) where
-  pub t1-t2 : HasElements setup → (past : List Entry) → IsMadeAll setup payload past → OwedFrom setup payload past → (x : Side) → AreApart setup payload x past
-  t1-t2 elements past m b x = are-apart setup elements payload past m (all-owed setup payload past m b) x
+  pub are-apart-all : HasElements setup → (past : List Entry) → IsMadeAll setup payload past → OwedFrom setup payload past → (x : Side) → AreApart setup payload x past
+  are-apart-all elements past m b x = are-apart setup elements payload past m (all-owed setup payload past m b) x
 
-  pub t3-t4 : (past : List Entry) → IsMadeAll setup payload past → OwedFrom setup payload past → (x : Side) → AreDone setup payload x past
-  t3-t4 past m b x = are-done setup payload past m (all-owed setup payload past m b) x
+  pub are-done-all : (past : List Entry) → IsMadeAll setup payload past → OwedFrom setup payload past → (x : Side) → AreDone setup payload x past
+  are-done-all past m b x = are-done setup payload past m (all-owed setup payload past m b) x
 
-  pub g2 : HasElements setup → (e : Entry) (past : List Entry) → IsMadeAll setup payload (e ∷ past) → OwedFrom setup payload past → (x : Side) → RelendsOnlyDone x e past
-  g2 elements e past m b x = is-lent setup elements payload e past m (all-owed setup payload past m.1 b) x
+  pub relends-all : HasElements setup → (e : Entry) (past : List Entry) → IsMadeAll setup payload (e ∷ past) → OwedFrom setup payload past → (x : Side) → RelendsOnlyDone x e past
+  relends-all elements e past m b x = is-lent setup elements payload e past m (all-owed setup payload past m.1 b) x
 
   pub reuse : (past : List Entry) → IsMadeAll setup payload past → OwedFrom setup payload past → AreCarriedOn setup payload past → (y : Side) (l : Lending) → IsAmong l (lendings y past) → (IsAmong l (lent setup payload y past) → ⊥) → has_ended y l.group past ≡ false
       → (link : LinkId) → is_lost (other y) link past ≡ false → CarriesNoBytes (element_size setup) link (other y) l past

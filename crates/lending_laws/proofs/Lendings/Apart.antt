@@ -6,7 +6,7 @@ use Rattle.pipe_model.specs.declared.event.Event.TheVariants.{Clc as ClcEvent}
 use Rattle.std.specs.Prelude.{is_some, option_map, unwrap_or}
 use Rattle.pipe_model.specs.Connections.{comes_up}
 use Rattle.history_laws.specs.Words.{A, B, Declined, EndState, Entry, FellBack, Lending, LinkId, Place, Reply, Reset, Setup, Side, WaitsConfirm, after_clc, after_event, after_loss, all_places, early_state, elements_of, end_state, gives_up, group_of, group_on, is_out, is_over_on, is_up, leaves_handshake, lendings, lends, lends_by, lent, loses_group_with, new_offer, other, returns, rmbs_of, same_place}
-use Rattle.history_laws.specs.Made.{IsMadeAll, IsMadeAny}
+use Rattle.history_laws.specs.Made.{IsMadeAll, IsMade}
 use Rattle.history_laws.specs.Offers.{Begins, BeginsNone, BeginsOne, HasOffers, HasStates, NewLending, is_early}
 use Rattle.history_laws.proofs.Offers.{Does, DoesBegin, DoesNothing, DoesTake, all-offers, begins, does, in-append, not-none, state-early, state-up, states, taken-as}
 use Rattle.history_laws.specs.Lists.{IsAmong}
@@ -58,7 +58,7 @@ not-lost false true h e = ap (λ b. not b) e
 not-lost false false h e = refl
 
 module _ (setup : Setup) (elements : HasElements setup) (payload : List ℕ) (e : Entry) (past : List Entry) (m : IsMadeAll setup payload (e ∷ past)) (w : OwedLendings setup payload past) (x : Side) where
-  abbrev one : (before : ℕ) × IsMadeAny setup payload past before e
+  abbrev one : (before : ℕ) × IsMade setup payload past before e
   one = m.0
 
   abbrev st : (s : ℕ) → HasStates s past

@@ -6,7 +6,7 @@ use Rattle.pipe_model.specs.declared.event.Event.TheVariants.{Clc as ClcEvent}
 use Rattle.pipe_model.specs.declared.reply.Reply.TheVariants.{Idle}
 use Rattle.pipe_model.specs.Lending.{is_gone}
 use Rattle.history_laws.specs.Words.{A, B, EndState, Entry, HasFallen, IsFeasible, IsUp, Lending, LinkId, NoEnd, Offered, Setup, Side, WaitsAnswer, WaitsConfirm, WaitsLink, WaitsProposal, WasReset, after_clc, after_event, after_loss, early_state, end_state, expects, group_on, half, has_ended, is_done_with, is_out, is_over, is_over_on, is_up, items, lendings, lends, lends_by, lent, loses_group_with, named_link, new_offer, offered, other, part, pipe_of, terms_of, told_last}
-use Rattle.history_laws.specs.Made.{IsMadeAll, IsMadeAny}
+use Rattle.history_laws.specs.Made.{IsMadeAll, IsMade}
 use Rattle.history_laws.specs.Lists.{IsAmong}
 use Rattle.history_laws.proofs.Offers.{Answers, ByVerdict, Does, DoesBegin, DoesNothing, DoesTake, ForFault, NotTaken, all-offers, answers, does, in-back, new-or-old, state-early, state-up, states, taken-as}
 use Rattle.history_laws.proofs.Items.{over-stays}
@@ -50,7 +50,7 @@ loss-ends true g st n o = refl
 loss-ends false g st n o = absurd (true≢false (sym o ∙ n))
 
 module _ (setup : Setup) (payload : List ℕ) (e : Entry) (past : List Entry) (m : IsMadeAll setup payload (e ∷ past)) (s : ℕ) where
-  abbrev one : (before : ℕ) × IsMadeAny setup payload past before e
+  abbrev one : (before : ℕ) × IsMade setup payload past before e
   one = m.0
 
   abbrev st : HasStates s past

@@ -16,7 +16,7 @@ use Rattle.history_laws.specs.Words.{A, Act, B, ClcMessage, Declined, EndState, 
 use Rattle.history_laws.specs.Offers.{HasOffers, HasStates, HasStream, IsProposed, NewLending, NoProposal, is_early, is_none}
 use Rattle.history_laws.specs.Lists.{IsAmong}
 use Rattle.history_laws.proofs.Basics.{by-bool, none-is, or-left, or-none, or-parts}
-use Rattle.history_laws.specs.Made.{IsMadeAll, IsMadeAny}
+use Rattle.history_laws.specs.Made.{IsMadeAll, IsMade}
 use Rattle.history_laws.proofs.Offers.{Answers, AsConfirmed, AsDeclined, AsOpened, ByVerdict, Does, DoesBegin, DoesNothing, DoesTake, ForFault, NewMessage, NotTaken, all-offers, answers, does, in-append, in-drop, loss-none, messages-are, new-message, new-or-old, none-expects, opens-new, state-early, state-up, states, taken-as}
 use Rattle.lending_laws.specs.Owed.{OwedWith}
 use Rattle.lending_laws.proofs.Lendings.Returns.{leaves-out, out-stays}
@@ -91,7 +91,7 @@ none-confirmed None i (Some act) = by act.step
 none-confirmed (Some o) i a = absurd (none-is o (sym i))
 
 module _ (setup : Setup) (payload : List ℕ) (e : Entry) (past : List Entry) (m : IsMadeAll setup payload (e ∷ past)) (with_it : OwedWith e past) (s : ℕ) (h : HasStream s past) where
-  abbrev one : (before : ℕ) × IsMadeAny setup payload past before e
+  abbrev one : (before : ℕ) × IsMade setup payload past before e
   one = m.0
 
   abbrev st : HasStates s past

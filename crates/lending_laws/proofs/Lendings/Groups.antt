@@ -3,14 +3,15 @@ use Rattle.std.proofs.Common.{Bool, List, [], ap, arith, eq-eqb, eqb-true, false
 use Rattle.pipe_model.specs.declared.reply.Hold.TheVariants.{AddLink as AddLinkHold, ConfirmRkey as ConfirmRkeyHold, DeleteRkey as DeleteRkeyHold, FirstContact as FirstContactHold}
 use Rattle.pipe_model.specs.declared.reply.Lack.TheVariants.{Raw as RawLack}
 use Rattle.std.specs.Prelude.{Some, option_map, unwrap_or}
+use Rattle.pipe_model.specs.Handshake.{verdict}
 use Rattle.clc_wire.specs.declared.message.ClcMessage.TheVariants.{Accept as AcceptMessage}
 use Rattle.pipe_model.specs.Fabric.{after}
 use Rattle.pipe_model.specs.declared.event.Event.TheVariants.{Clc as ClcEvent}
 use Rattle.pipe_model.specs.declared.reply.Reply.TheVariants.{Sent}
 use Rattle.pipe_model.specs.declared.reply.SentKind.TheVariants.{Accept as AcceptSent}
-use Rattle.history_laws.specs.Words.{A, AskKey, B, ClcStep, Decline, Entry, Fabric, GroupLost, Known, Lacks, Lending, LinkId, NoClientElement, NoServerElement, NoSlot, NoSubnet, Offer, Offered, OldGroup, Proposal, SendAccept, SendConfirm, Setup, Side, Wait, WaitsProposal, accept_post, confirm_post, end_state, fabric, fewest, first_contact_step, flow_of, group_of, groups_begun, is_asked, is_deleting, is_first_contact, is_live, is_over_on, is_raw, key_step, lacks, leaves_handshake, lends, lends_by, lent, lighter, lightest, link_now, live_links, load, loses_group_with, named_link, new_offer, no_link, offered, on_accept, on_first_accept, on_later_accept, on_proposal, peer, returns, table_of, verdict}
+use Rattle.history_laws.specs.Words.{A, AskKey, B, ClcStep, Decline, Entry, Fabric, GroupLost, Known, Lacks, Lending, LinkId, NoClientElement, NoServerElement, NoSlot, NoSubnet, Offer, Offered, OldGroup, Proposal, SendAccept, SendConfirm, Setup, Side, Wait, WaitsProposal, accept_post, confirm_post, end_state, fabric, fewest, first_contact_step, flow_of, group_of, groups_begun, is_asked, is_deleting, is_first_contact, is_live, is_over_on, is_raw, key_step, lacks, leaves_handshake, lends, lends_by, lent, lighter, lightest, link_now, live_links, load, loses_group_with, named_link, new_offer, no_link, offered, on_accept, on_first_accept, on_later_accept, on_proposal, peer, returns, table_of}
 use Rattle.history_laws.proofs.Basics.{by-bool, or-none, some-live}
-use Rattle.history_laws.specs.Made.{IsMadeAny}
+use Rattle.history_laws.specs.Made.{IsMade}
 use Rattle.history_laws.specs.Offers.{Accepts, Confirms, HasOffers, HasStates, Offers, OffersAccept, OffersConfirm, OffersNone, accept_link, confirm_reply}
 use Rattle.history_laws.proofs.Offers.{accept-is, accept-new, accepts-in, confirm-new, free-lends-all, of-entry, sends-accept}
 use Rattle.history_laws.specs.Lists.{IsAmong}
@@ -38,6 +39,8 @@ pub record AcceptFacts (l : Lacks) (first : Bool) : Type 0 where
   pub beyond : l.first_contact ≡ false
   pub some : (l.free == 0) ≡ false
   pub first_is : (l.group == 0) ≡ first
+  pub calm : is_deleting l.key_flow ≡ false
+  pub ready : first ≡ false → l.rmb_ready ≡ true
 
 pub accept-facts : (raw : Bool) (p : Proposal) (l : Lacks) (first : Bool) → on_proposal raw p l ≡ SendAccept first → AcceptFacts l first
 accept-facts raw p l first e =
@@ -50,10 +53,21 @@ accept-facts raw p l first e =
     let b = if-not l.first_contact (Wait FirstContactHold) deleting (SendAccept first) (λ h. cc) a.1 in
     let c = if-not (is_deleting l.key_flow) (Wait DeleteRkeyHold) lacking (SendAccept first) (λ h. cc) b.1 in
     let d = if-not (l.free == 0) (Decline (NoServerElement l.elements)) grouped (SendAccept first) (λ h. cc) c.1 in
-    record { beyond = b.0; some = d.0; first_is = by (l.group == 0) refl d.1 }
+    record { beyond = b.0; some = d.0; first_is = by (l.group == 0) refl d.1; calm = c.0; ready = readied (l.group == 0) d.1 }
   where
     first-of : (a b : Bool) → SendAccept a ≡ SendAccept b → a ≡ b
     first-of a b h = cc
+
+    not-false : (b : Bool) → not b ≡ false → b ≡ true
+    not-false true h = refl
+    not-false false h = absurd (true≢false h)
+
+    readied : (g : Bool) → (if g then first_contact_step raw l else (if not l.rmb_ready then key_step l else SendAccept false)) ≡ SendAccept first → first ≡ false → l.rmb_ready ≡ true
+    readied true q f =
+        let a = if-not raw (Decline RawLack) (if l.slots_up == 0 then Decline (NoSlot l.links) else SendAccept true) (SendAccept first) (λ w. cc) q in
+        let b = if-not (l.slots_up == 0) (Decline (NoSlot l.links)) (SendAccept true) (SendAccept first) (λ w. cc) a.1 in
+        absurd (true≢false (first-of true first b.1 ∙ f))
+    readied false q f = let a = if-not (not l.rmb_ready) (key_step l) (SendAccept false) (SendAccept first) (key-not-accept l first) q in not-false l.rmb_ready a.0
 
     by : (g : Bool) → (l.group == 0) ≡ g → (if g then first_contact_step raw l else (if not l.rmb_ready then key_step l else SendAccept false)) ≡ SendAccept first → (l.group == 0) ≡ first
     by true h q =
@@ -68,6 +82,8 @@ pub record ConfirmFacts (o : Offer) (l : Lacks) (first : Bool) : Type 0 where
   pub fresh : first ≡ true → (l.group == 0) ≡ true
   pub named : first ≡ false → (o.psn == l.group) ≡ true
   pub some : first ≡ false → (l.free == 0) ≡ false
+  pub calm : first ≡ false → is_deleting l.key_flow ≡ false
+  pub ready : first ≡ false → l.rmb_ready ≡ true
 
 pub confirm-facts : (o : Offer) (l : Lacks) (first : Bool) → on_accept o l ≡ SendConfirm first → ConfirmFacts o l first
 confirm-facts o l first e = by o.first refl e
@@ -83,7 +99,7 @@ confirm-facts o l first e = by o.first refl e
     by true f q =
         let a = if-not (not (l.group == 0)) (Wait OldGroup) (SendConfirm true) (SendConfirm first) (λ w. cc) q in
         let is : true ≡ first = first-of true first a.1 in
-        record { first_is = f ∙ is; fresh = λ w. not-false (l.group == 0) a.0; named = λ w. absurd (true≢false (is ∙ w)); some = λ w. absurd (true≢false (is ∙ w)) }
+        record { first_is = f ∙ is; fresh = λ w. not-false (l.group == 0) a.0; named = λ w. absurd (true≢false (is ∙ w)); some = λ w. absurd (true≢false (is ∙ w)); calm = λ w. absurd (true≢false (is ∙ w)); ready = λ w. absurd (true≢false (is ∙ w)) }
     by false f q =
         let ready : ClcStep = if not l.rmb_ready then key_step l else SendConfirm false in
         let lacking : ClcStep = if l.free == 0 then Decline (NoClientElement l.elements) else ready in
@@ -93,7 +109,7 @@ confirm-facts o l first e = by o.first refl e
         let c = if-not (l.free == 0) (Decline (NoClientElement l.elements)) ready (SendConfirm first) (λ w. cc) b.1 in
         let d = if-not (not l.rmb_ready) (key_step l) (SendConfirm false) (SendConfirm first) (key-not-confirm l first) c.1 in
         let is : false ≡ first = first-of false first d.1 in
-        record { first_is = f ∙ is; fresh = λ w. absurd (true≢false (sym w ∙ sym is)); named = λ w. not-false (o.psn == l.group) a.0; some = λ w. c.0 }
+        record { first_is = f ∙ is; fresh = λ w. absurd (true≢false (sym w ∙ sym is)); named = λ w. not-false (o.psn == l.group) a.0; some = λ w. c.0; calm = λ w. b.0; ready = λ w. not-false l.rmb_ready d.0 }
 
 -- the live links of a side are of its group
 abbrev AllOf : ℕ → List LinkId → Type 0
@@ -132,7 +148,7 @@ fewest-group setup payload past own g f = by own.sound
     by (ConfirmsContact link n h t) = absurd (true≢false (sym (ap (λ (w : _). is_first_contact w.link) h) ∙ f))
     by (Goes k n live flowing) = lightest-of (group_of B past) (map (link_now setup payload past) (lent setup payload B past)) (live_links (table_of B past)) (live-of (group_of B past) (table_of B past) (own.owned some)) (some-live k (table_of B past) live)
 
-module _ (setup : Setup) (payload : List ℕ) (past : List Entry) (before : ℕ) (e : Entry) (made : IsMadeAny setup payload past before e) (st : (s : ℕ) → HasStates s past) (off : (s : ℕ) → HasOffers s past) (own : IsOwn B (peer B (fabric past)))
+module _ (setup : Setup) (payload : List ℕ) (past : List Entry) (before : ℕ) (e : Entry) (made : IsMade setup payload past before e) (st : (s : ℕ) → HasStates s past) (off : (s : ℕ) → HasOffers s past) (own : IsOwn B (peer B (fabric past)))
     (psn : (s : ℕ) (o : Offered) → offered B s past ≡ Some o → o.offer.psn ≡ o.link.group) (grouped : (s : ℕ) (o : Offered) → offered B s past ≡ Some o → (o.link.group == 0) ≡ false) where
   -- the group of a new lending is its side's after the entry, and not 0
   abbrev GroupFits : (x : Side) → LinkId → Type 0

@@ -1,15 +1,16 @@
 -- The least from which all of it follows: B's links are of its group, parts can be, sockets are known, and a first link finds its end waiting.
 use Rattle.std.proofs.Common.{Bool, List, [], ap, eqb-true, false, if◌then◌else◌, inl, inr, refl, subst, sym, true, true≢false, ℕ, ◌<◌, ◌==◌, ◌∙◌, ◌∷◌, ◌≡◌, ◌⊎◌}
 use Rattle.clc_wire.specs.declared.message.ClcMessage.TheVariants.{Accept as AcceptMessage, Confirm as ConfirmMessage, Decline as DeclineMessage, Proposal as ProposalMessage}
+use Rattle.pipe_model.specs.Handshake.{verdict}
 use Rattle.pipe_model.specs.declared.reply.Reply.TheVariants.{Idle, Sent}
 use Rattle.pipe_model.specs.declared.reply.SentKind.TheVariants.{Accept as AcceptSent, Confirm as ConfirmSent, ConfirmLink as LinkSent}
 use Rattle.pipe_model.specs.declared.event.Event.TheVariants.{Clc as ClcEvent, Raw}
 use Rattle.std.specs.Prelude.{None, Option, Some, option_and_then, option_map}
 use Rattle.pipe_model.specs.declared.flow.FlowStep.TheVariants.{Live}
 use Rattle.pipe_model.specs.Connections.{comes_up}
-use Rattle.history_laws.specs.Words.{A, Act, AskKey, B, ClcMessage, ClcStep, Decline, Declined, EndState, Entry, Established, Event, Fell, FellBack, FlowStep, HasFallen, Held, RelendsOnlyDone, IsUp, Lacks, Lending, LinkId, Lost, NoEnd, Offer, Offered, Open, Opened, Ready, Reply, Reset, SendAccept, SendConfirm, Setup, Side, Wait, WaitsAnswer, WaitsConfirm, WaitsLink, WaitsProposal, WasReset, Whole, Wrong, Wrote, act_in, after_clc, after_event, after_loss, after_raw, clc_step, confirmed_by, early_state, element_size, end_state, expects, front, group_on, has_ended, is_out, is_raw, is_up, lacks, lendings, lends_by, lent, loses_group_with, named_link, new_offer, offered, other, step_told, verdict}
+use Rattle.history_laws.specs.Words.{A, Act, AskKey, B, ClcMessage, ClcStep, Decline, Declined, EndState, Entry, Established, Event, Fell, FellBack, FlowStep, HasFallen, Held, RelendsOnlyDone, IsUp, Lacks, Lending, LinkId, Lost, NoEnd, Offer, Offered, Open, Opened, Ready, Reply, Reset, SendAccept, SendConfirm, Setup, Side, Wait, WaitsAnswer, WaitsConfirm, WaitsLink, WaitsProposal, WasReset, Whole, Wrong, Wrote, act_in, after_clc, after_event, after_loss, after_raw, clc_step, confirmed_by, early_state, element_size, end_state, expects, front, group_on, has_ended, is_out, is_raw, is_up, lacks, lendings, lends_by, lent, loses_group_with, named_link, new_offer, offered, other, step_told}
 use Rattle.history_laws.proofs.Offers.{Answers, ByVerdict, ForFault, NotTaken, accept-step, all-offers, answers, confirms-in, front-in, kept, never-waits, new-or-old, proposal-step, sends-confirm, state-early, state-up, states}
-use Rattle.history_laws.specs.Made.{IsMadeAll, IsMadeAny}
+use Rattle.history_laws.specs.Made.{IsMadeAll, IsMade}
 use Rattle.history_laws.specs.Offers.{HasOffers, HasStates, NewLending}
 use Rattle.history_laws.proofs.Basics.{by-bool, none-is}
 use Rattle.history_laws.specs.Lists.{IsAmong}
@@ -21,7 +22,7 @@ use Rattle.lending_laws.specs.Ends.{OffersGoOn}
 use Rattle.lending_laws.proofs.Lendings.Lendings.{all-lendings}
 use Rattle.lending_laws.proofs.Lendings.Owed.{grouped-own}
 use Rattle.lending_laws.specs.Lendings.{AreApart, AreDone, AreLendings, HasElements}
-use Rattle.lending_laws.proofs.Lendings.All.{g2, reuse, t1-t2, t3-t4}
+use Rattle.lending_laws.proofs.Lendings.All.{are-apart-all, are-done-all, relends-all, reuse}
 use Rattle.lending_laws.specs.Reuse.{AreCarriedOn, CarriesNoBytes}
 
 -- it does so of a Confirm alone, at an end that waits for it, on a socket that is not raw
@@ -84,7 +85,7 @@ abbrev Forward : Reply → Type 0
 Forward r = (r ≡ Established) ⊎ ((r ≡ Sent LinkSent) ⊎ (r ≡ Sent ConfirmSent))
 
 module _ (setup : Setup) (payload : List ℕ) (e : Entry) (past : List Entry) (m : IsMadeAll setup payload (e ∷ past)) (s : ℕ) where
-  abbrev one : (before : ℕ) × IsMadeAny setup payload past before e
+  abbrev one : (before : ℕ) × IsMade setup payload past before e
   one = m.0
 
   abbrev st : HasStates s past
@@ -307,11 +308,11 @@ from-least setup payload (e ∷ past) m w =
 
 -- an element is lent again only when it is done with, from the least that is owed
 pub relending : (setup : Setup) (payload : List ℕ) (e : Entry) (past : List Entry) (x : Side) → HasElements setup → IsMadeAll setup payload (e ∷ past) → OwedLeast setup payload past → RelendsOnlyDone x e past
-relending setup payload e past x elements m w = g2 setup payload elements e past m (from-least setup payload past m.1 w) x
+relending setup payload e past x elements m w = relends-all setup payload elements e past m (from-least setup payload past m.1 w) x
 
 -- lendings are apart, held and done with, from the least that is owed
 pub lending-laws : (setup : Setup) (payload : List ℕ) (past : List Entry) (x : Side) → HasElements setup → IsMadeAll setup payload past → OwedLeast setup payload past → AreLendings x past × (AreApart setup payload x past × AreDone setup payload x past)
-lending-laws setup payload past x elements m w = (all-lendings setup payload past m x, (t1-t2 setup payload elements past m (from-least setup payload past m w) x, t3-t4 setup payload past m (from-least setup payload past m w) x))
+lending-laws setup payload past x elements m w = (all-lendings setup payload past m x, (are-apart-all setup payload elements past m (from-least setup payload past m w) x, are-done-all setup payload past m (from-least setup payload past m w) x))
 
 -- reuse from the least
 pub no-old-bytes : (setup : Setup) (payload : List ℕ) (past : List Entry) (y : Side) (l : Lending) (link : LinkId) → IsMadeAll setup payload past → OwedLeast setup payload past → AreCarriedOn setup payload past → IsAmong l (lendings y past)

@@ -1,11 +1,11 @@
 -- The lendings of a side: tokens count them, each is that of its socket's one offer; and what is lent changes by returns and offers alone.
 use Rattle.std.proofs.Common.{Bool, List, [], ap, arith, eq-eqb, eqb-true, false, filter, filter_map, if◌then◌else◌, inl, inr, length, not, refl, subst, sym, true, true≢false, ℕ, ◌++◌, ◌==◌, ◌∙◌, ◌∷◌, ◌≡◌, ◌≤◌, ◌⊎◌}
-use Rattle.std.specs.Prelude.{Some}
+use Rattle.std.specs.Prelude.{None, Option, Some}
 use Rattle.std.specs.Option.{option_or}
 use Rattle.history_laws.specs.Words.{Entry, Lending, Offered, Setup, Side, head, lendings, lends, lends_by, lent, new_offer, offer_in, offered, returns}
 use Rattle.history_laws.specs.Lists.{IsAmong}
 use Rattle.history_laws.proofs.Offers.{all-offers, begins, in-append, in-back, in-front, kept, states}
-use Rattle.history_laws.specs.Made.{IsMadeAll, IsMadeAny}
+use Rattle.history_laws.specs.Made.{IsMadeAll, IsMade}
 use Rattle.history_laws.specs.Offers.{Begins, BeginsNone, BeginsOne, HasOffers, HasStates, NewLending}
 use Rattle.history_laws.proofs.Basics.{by-bool, none-is, not-true, some-is}
 use Rattle.lending_laws.specs.Lendings.{AreCounted, AreLendings, Changes, IsOfOffer}
@@ -52,7 +52,7 @@ token-one (k ∷ ls) c l m (inr i) (inr j) e = token-one ls c.1 l m i j e
 token-one (k ∷ ls) c l m (inl p) (inr j) e = absurd (let few = token-few ls c.1 m j in omega (arith, ap (λ (n : Lending). n.token) p, c.0, e, few))
 token-one (k ∷ ls) c l m (inr i) (inl q) e = absurd (let few = token-few ls c.1 l i in omega (arith, ap (λ (n : Lending). n.token) q, c.0, e, few))
 
-module _ (setup : Setup) (payload : List ℕ) (past : List Entry) (before : ℕ) (e : Entry) (made : IsMadeAny setup payload past before e) (st : (s : ℕ) → HasStates s past) (off : (s : ℕ) → HasOffers s past) (x : Side) where
+module _ (setup : Setup) (payload : List ℕ) (past : List Entry) (before : ℕ) (e : Entry) (made : IsMade setup payload past before e) (st : (s : ℕ) → HasStates s past) (off : (s : ℕ) → HasOffers s past) (x : Side) where
   pub changes : Changes setup payload x e past
   changes = record {
     begins = begins setup payload past before e made st off x;
@@ -74,6 +74,14 @@ module _ (setup : Setup) (payload : List ℕ) (past : List Entry) (before : ℕ)
 
   pub offered-now : (n : NewLending setup payload x e past) → offered x n.s (e ∷ past) ≡ Some (record { link = n.link; offer = new_offer setup payload x n.first n.link past })
   offered-now n = ap (λ (os : List Offered). option_or (head os) (offered x n.s past)) (n.offers n.s ∙ ap (λ b. if b then record { link = n.link; offer = new_offer setup payload x n.first n.link past } ∷ [] else []) (eq-eqb n.s n.s refl))
+
+  -- before it, the side had not offered there
+  pub not-offered : (n : NewLending setup payload x e past) → offered x n.s past ≡ None
+  not-offered n = by (offered x n.s past) refl
+    where
+      by : (o : Option Offered) → offered x n.s past ≡ o → offered x n.s past ≡ None
+      by None i = i
+      by (Some o) i = absurd (true≢false (sym n.early ∙ (let h = off n.s in h.later x o i)))
 
   of-offer-after : ((l : Lending) → IsAmong l (lendings x past) → IsOfOffer x past l) → (l : Lending) → IsAmong l (lendings x (e ∷ past)) → IsOfOffer x (e ∷ past) l
   of-offer-after was l i = by (begins setup payload past before e made st off x) (in-append l (filter_map (lends x) e.posts) (lendings x past) i)

@@ -8,7 +8,7 @@ use Rattle.std.specs.List.{list_any}
 use Rattle.pipe_model.specs.Lending.{posts_last}
 use Rattle.pipe_model.proofs.ToldLast.{over-has-told}
 use Rattle.history_laws.specs.Words.{A, B, EachOf, Entry, Item, Lending, LinkId, Offered, Post, Setup, Side, Terms, connection_posts, draft, fabric, group_on, half, has_last, is_over, is_up, items, lends, lends_by, new_offer, offered, other, part, pipe, pipe_of, posts_of, terms_of, told_last}
-use Rattle.history_laws.specs.Made.{IsMadeAll, IsMadeAny}
+use Rattle.history_laws.specs.Made.{IsMadeAll, IsMade}
 use Rattle.history_laws.proofs.Basics.{by-bool, none-is, or-left, or-true, some-is}
 use Rattle.history_laws.proofs.Offers.{all-offers, kept, new-or-old, posts-are, states}
 use Rattle.history_laws.specs.Offers.{NewLending}
@@ -46,7 +46,7 @@ grouped-own setup payload (e ∷ past) m w s o i =
     let one = m.0 in
     by one.0 one.1 (grouped-own setup payload past m.1 w.1) (new-or-old setup payload past one.0 e one.1 (states setup payload past m.1) (all-offers setup payload past m.1) B s)
   where
-    by : (before : ℕ) → IsMadeAny setup payload past before e → ((t : ℕ) (q : Offered) → offered B t past ≡ Some q → (q.link.group == 0) ≡ false)
+    by : (before : ℕ) → IsMade setup payload past before e → ((t : ℕ) (q : Offered) → offered B t past ≡ Some q → (q.link.group == 0) ≡ false)
         → (offered B s (e ∷ past) ≡ offered B s past) ⊎ ((n : NewLending setup payload B e past) × ((s ≡ n.s) × (offered B s (e ∷ past) ≡ Some (record { link = n.link; offer = new_offer setup payload B n.first n.link past })))) → (o.link.group == 0) ≡ false
     by before made was (inl same) = was s o (sym same ∙ i)
     by before made was (inr q) =
@@ -71,10 +71,10 @@ pub up-offered : (setup : Setup) (payload : List ℕ) (past : List Entry) → Is
 up-offered setup payload [] m w y s u = absurd (true≢false (sym u))
 up-offered setup payload (e ∷ past) m w y s u = let one = m.0 in let rest = w.1 in by one.0 one.1 rest.0 (up-offered setup payload past m.1 rest.1 y s) (comes_up y s e past) refl
   where
-    stays : (before : ℕ) → IsMadeAny setup payload past before e → (o : Offered) × (offered (other y) s past ≡ Some o) → (o : Offered) × (offered (other y) s (e ∷ past) ≡ Some o)
+    stays : (before : ℕ) → IsMade setup payload past before e → (o : Offered) × (offered (other y) s past ≡ Some o) → (o : Offered) × (offered (other y) s (e ∷ past) ≡ Some o)
     stays before made q = (q.0, kept setup payload past before e made (states setup payload past m.1) (all-offers setup payload past m.1) (other y) s q.0 q.1)
 
-    by : (before : ℕ) → IsMadeAny setup payload past before e → OwedWith e past → (is_up y s past ≡ true → (o : Offered) × (offered (other y) s past ≡ Some o)) → (c : Option LinkId) → comes_up y s e past ≡ c → (o : Offered) × (offered (other y) s (e ∷ past) ≡ Some o)
+    by : (before : ℕ) → IsMade setup payload past before e → OwedWith e past → (is_up y s past ≡ true → (o : Offered) × (offered (other y) s past ≡ Some o)) → (c : Option LinkId) → comes_up y s e past ≡ c → (o : Offered) × (offered (other y) s (e ∷ past) ≡ Some o)
     by before made with was None i = stays before made (was (sym (ap (λ c. is_some c || is_up y s past) i) ∙ u))
     by before made with was (Some link) i = stays before made (with.answers y s link i)
 
@@ -90,7 +90,7 @@ pub last-up : (t : Terms) (x : Side) (payload : List ℕ) (group s : ℕ) (past 
 last-up t x payload group s past e = by-bool (is_up x s past ≡ true) (is_up x s past) (λ u. u) (λ u. absurd (true≢false (sym e ∙ ap has_last (quiet t x payload group s past u))))
 
 -- the draft of an entry gives the same items
-draft-items : (setup : Setup) (payload : List ℕ) (past : List Entry) (before : ℕ) (e : Entry) → IsMadeAny setup payload past before e → (group s : ℕ) → items payload group s (draft setup payload past before e.event) past ≡ items payload group s e past
+draft-items : (setup : Setup) (payload : List ℕ) (past : List Entry) (before : ℕ) (e : Entry) → IsMade setup payload past before e → (group s : ℕ) → items payload group s (draft setup payload past before e.event) past ≡ items payload group s e past
 draft-items setup payload past before e made group s =
     let more : List Post = connection_posts setup payload (draft setup payload past before e.event) past in
     same-items payload group s (draft setup payload past before e.event) e past refl (sym made.reply)
@@ -103,7 +103,7 @@ abbrev HasTold : Side → ℕ → List Entry → Type 0
 HasTold y s past = (o : Offered) × ((offered (other y) s past ≡ Some o) × (told_last y o.offer.token past ≡ true))
 
 module _ (setup : Setup) (payload : List ℕ) (e : Entry) (past : List Entry) (m : IsMadeAll setup payload (e ∷ past)) (w : OwedLendings setup payload (e ∷ past)) (y : Side) (s : ℕ) where
-  abbrev one : (before : ℕ) × IsMadeAny setup payload past before e
+  abbrev one : (before : ℕ) × IsMade setup payload past before e
   one = m.0
 
   abbrev t : Terms

@@ -7,7 +7,7 @@ use Rattle.pipe_model.specs.Lending.{IsRelent, free_places, lent_places}
 use Rattle.std.specs.List.{list_any, range_with_len}
 use Rattle.history_laws.specs.Words.{A, B, Entry, RelendsOnlyDone, Lending, LinkId, Place, Setup, Side, all_places, elements_of, group_of, head, is_done_with, lacks, lendings, lends, lends_by, lent, new_offer, next_free, rmbs_of, same_place}
 use Rattle.history_laws.specs.Lists.{IsAmong}
-use Rattle.history_laws.specs.Made.{IsMadeAll, IsMadeAny}
+use Rattle.history_laws.specs.Made.{IsMadeAll, IsMade}
 use Rattle.history_laws.proofs.Offers.{accept-new, all-offers, confirm-new, free-lends-all, of-entry, states}
 use Rattle.history_laws.proofs.Basics.{by-bool, rmb-of}
 use Rattle.history_laws.specs.Offers.{Accepts, Confirms, HasOffers, HasStates, Offers, OffersAccept, OffersConfirm, OffersNone}
@@ -70,7 +70,7 @@ none-in-it [] f = refl
 none-in-it (l ∷ ls) f = absurd (f l (inl refl))
 
 module _ (setup : Setup) (elements : HasElements setup) (payload : List ℕ) (e : Entry) (past : List Entry) (m : IsMadeAll setup payload (e ∷ past)) (w : OwedLendings setup payload past) where
-  abbrev one : (before : ℕ) × IsMadeAny setup payload past before e
+  abbrev one : (before : ℕ) × IsMade setup payload past before e
   one = m.0
 
   abbrev st : (s : ℕ) → HasStates s past

@@ -8,7 +8,7 @@ use Rattle.pipe_model.specs.declared.reply.Reply.TheVariants.{Idle}
 use Rattle.history_laws.specs.Words.{A, B, Declined, EndState, Entry, Established, Event, FellBack, HasFallen, IsUp, Lending, LinkId, NoEnd, Offered, Reply, Reset, Setup, Side, WaitsAnswer, WaitsConfirm, WaitsLink, WaitsProposal, WasReset, act_by, act_in, after_clc, after_event, after_loss, confirmed_by, early_state, end_state, expects, gives_up, group_on, has_ended, is_out, is_over_on, is_up, leaves_handshake, lendings, lends, lent, loses_group_with, named_link, new_offer, offered, other, returns, up_by}
 use Rattle.history_laws.proofs.Basics.{by-bool, none-is, or-left, or-parts, or-true, some-is}
 use Rattle.history_laws.proofs.Offers.{Answers, ByVerdict, Does, DoesBegin, DoesNothing, DoesTake, ForFault, NotTaken, all-offers, answers, does, in-append, in-front, kept, new-or-old, state-early, state-up, states, taken-as}
-use Rattle.history_laws.specs.Made.{IsMadeAll, IsMadeAny}
+use Rattle.history_laws.specs.Made.{IsMadeAll, IsMade}
 use Rattle.history_laws.specs.Offers.{HasOffers, HasStates, NewLending, is_early, is_none}
 use Rattle.history_laws.specs.Lists.{IsAmong}
 use Rattle.lending_laws.specs.Owed.{OwedWith}
@@ -92,7 +92,7 @@ no-up B s e past ev g =
     quiet Established h = cc
     quiet _ h = refl
 
-module _ (setup : Setup) (payload : List ℕ) (past : List Entry) (before : ℕ) (e : Entry) (made : IsMadeAny setup payload past before e) (st : (s : ℕ) → HasStates s past) (off : (s : ℕ) → HasOffers s past) (owed : OwedWith e past) where
+module _ (setup : Setup) (payload : List ℕ) (past : List Entry) (before : ℕ) (e : Entry) (made : IsMade setup payload past before e) (st : (s : ℕ) → HasStates s past) (off : (s : ℕ) → HasOffers s past) (owed : OwedWith e past) where
   -- an end that went out stays out
   pub out-stays : (x : Side) (s : ℕ) → is_none (early_state x s past) ≡ false → is_out (end_state x s past) ≡ true → is_out (end_state x s (e ∷ past)) ≡ true
   out-stays x s n o = ap is_out (state-early x s (e ∷ past) (low (comes_up x s e past) refl)) ∙ loss-out (loses_group_with x (group_on s past) e past) (group_on s past) (after_event x s e.event e.reply (early_state x s past))
@@ -180,14 +180,14 @@ pub same-link : (setup : Setup) (payload : List ℕ) (past : List Entry) → IsM
 same-link setup payload [] m s o i = absurd (none-is o i)
 same-link setup payload (e ∷ past) m s o i = let one = m.0 in by one.0 one.1 (same-link setup payload past m.1 s o) (new-or-old setup payload past one.0 e one.1 (states setup payload past m.1) (all-offers setup payload past m.1) A s)
   where
-    named-stays : (before : ℕ) → IsMadeAny setup payload past before e → (link : LinkId) → named_link s past ≡ Some link → named_link s (e ∷ past) ≡ Some link
+    named-stays : (before : ℕ) → IsMade setup payload past before e → (link : LinkId) → named_link s past ≡ Some link → named_link s (e ∷ past) ≡ Some link
     named-stays before made link n = at (offered B s past) refl
       where
         at : (q : Option Offered) → offered B s past ≡ q → named_link s (e ∷ past) ≡ Some link
         at None j = absurd (none-is link (sym (ap (λ r. option_map (λ (p : Offered). p.link) r) j) ∙ n))
         at (Some p) j = ap (λ r. option_map (λ (k : Offered). k.link) r) (kept setup payload past before e made (states setup payload past m.1) (all-offers setup payload past m.1) B s p j) ∙ (sym (ap (λ r. option_map (λ (k : Offered). k.link) r) j) ∙ n)
 
-    by : (before : ℕ) → IsMadeAny setup payload past before e → (offered A s past ≡ Some o → named_link s past ≡ Some o.link)
+    by : (before : ℕ) → IsMade setup payload past before e → (offered A s past ≡ Some o → named_link s past ≡ Some o.link)
         → (offered A s (e ∷ past) ≡ offered A s past) ⊎ ((n : NewLending setup payload A e past) × ((s ≡ n.s) × (offered A s (e ∷ past) ≡ Some (record { link = n.link; offer = new_offer setup payload A n.first n.link past })))) → named_link s (e ∷ past) ≡ Some o.link
     by before made was (inl same) = named-stays before made o.link (was (sym same ∙ i))
     by before made was (inr q) =

@@ -3,12 +3,11 @@ use Rattle.std.proofs.Common.{Bool, List, [], ap, arith, eq-eqb, eqb-true, false
 use Rattle.std.specs.List.{list_any, range_with_len}
 use Rattle.std.proofs.lemmas.List.Folds.{list_any-append}
 use Rattle.std.specs.Prelude.{Some, flat_map}
-use Rattle.smc_num.specs.Names.{up_to}
 use Rattle.pipe_model.specs.declared.snapshot.Snapshot.{Snapshot}
 use Rattle.pipe_model.specs.Lending.{posts_last, tells_last}
 use Rattle.pipe_model.specs.Snapshot.{flag}
 use Rattle.pipe_model.specs.declared.sent.Sent.{Sent}
-use Rattle.history_laws.specs.Words.{A, B, Cdc, EachOf, Entry, Offer, Offered, Post, Setup, Side, cdc_posts, connection_posts, element_size, end_posts, group_on, has_last, is_last, is_offered, items, offered, offered_place, offered_sockets, other, part, pipe_posts, posts_of, same_side, sent_posts, spelled, terms_of, validation, writes}
+use Rattle.history_laws.specs.Words.{A, B, Cdc, EachOf, Entry, Offer, Offered, Post, Setup, Side, cdc_posts, connection_posts, element_size, end_posts, group_on, has_last, is_last, is_offered, items, offered, offered_place, offered_sockets, other, part, pipe_posts, posts_of, same_side, sent_posts, spelled, terms_of, up_to, validation, writes}
 use Rattle.history_laws.proofs.Basics.{by-bool, or-left, or-true, same-self}
 use Rattle.history_laws.specs.Lists.{IsAmong}
 use Rattle.history_laws.proofs.Items.{IsHonest}

@@ -7,7 +7,7 @@ use Rattle.smc_num.specs.declared.LinkPhase.TheVariants.{Live as LiveLink}
 use Rattle.history_laws.specs.Words.{A, B, ClcMessage, Entry, FirstContact, LinkId, NoEnd, Offer, Offered, Pending, Side, WaitsConfirm, WaitsLink, WaitsProposal, after_loss, begins_group, early_state, end_state, fabric, flow_of, group_of, group_on, groups_begun, head, is_first_contact, is_opened, is_pending, is_raw, is_up, link_at, loses_group_with, made_on, makes, named_link, no_flow, no_link, offered, phase_at, table_of, untaken, with_peer}
 use Rattle.history_laws.specs.Offers.{is_own_state}
 use Rattle.link_laws.specs.Linked.{Under, under_in}
-use Rattle.link_laws.specs.Offered.{AreNamed, IsProposed}
+use Rattle.link_laws.specs.Offered.{AreNamed, HasProposal}
 use Rattle.link_laws.specs.Contact.{IsConfirming, IsJoinedFirst, IsOfferedFirst}
 
 -- B knows no link, or nothing of the link flow is under way: then no CONFIRM LINK of first contact lands
@@ -57,7 +57,7 @@ pub record IsStreamed (x : Side) (s : ℕ) (past : List Entry) (e : Entry) : Typ
 pub record IsMoved (s : ℕ) (past : List Entry) (under : Option Under) (e : Entry) : Type 0 where
   pub stream : (x : Side) → IsStreamed x s past e
   pub offers : (x : Side) (o : Offered) → offered x s (e ∷ past) ≡ Some o → (offered x s past ≡ Some o) ⊎ IsLaterOffer x o past
-  pub proposed : is_raw s (e ∷ past) ≡ false → end_state B s (e ∷ past) ≡ WaitsProposal → IsProposed s (e ∷ past)
+  pub proposed : is_raw s (e ∷ past) ≡ false → end_state B s (e ∷ past) ≡ WaitsProposal → HasProposal s (e ∷ past)
   pub plain : is_opened s (e ∷ past) ≡ true → is_raw s (e ∷ past) ≡ false
   pub known : is_opened s (e ∷ past) ≡ false → is_raw s (e ∷ past) ≡ false → ⊥
   pub sided : (x : Side) → is_own_state x (early_state x s (e ∷ past)) ≡ true

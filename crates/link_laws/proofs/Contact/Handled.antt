@@ -8,7 +8,7 @@ use Rattle.history_laws.specs.Words.{A, B, ClcMessage, EndState, Entry, NoEnd, O
 use Rattle.history_laws.proofs.Basics.{none-is, some-is}
 use Rattle.history_laws.specs.Offers.{is_own_state}
 use Rattle.history_laws.proofs.Offers.{loss-own}
-use Rattle.link_laws.specs.Offered.{AreNamed, AreOffered, IsFresh, IsProposed}
+use Rattle.link_laws.specs.Offered.{AreNamed, AreOffered, IsFresh, HasProposal}
 use Rattle.link_laws.specs.Contact.{IsJoinedFirst, IsOfferedFirst}
 use Rattle.link_laws.specs.Linked.{Under}
 use Rattle.link_laws.proofs.Contact.Same.{is_waiting_state, loss-back, loss-keeps, state-parts, waited}
@@ -90,7 +90,7 @@ module _ (past : List Entry) (under : Option Under) (actor s : ℕ) (dir : Side)
           let was : early_state B s past ≡ state = subst (λ d. early_state (other d) s past ≡ state) q early.1 in
           left (ap (λ st. after_clc reply st) (sym was) ∙ sym (loss-back (loses_group_with B (group_on s past) e past) (group_on s past) (after_clc reply (early_state B s past)) (ap is_waiting_state (sym taker ∙ now.1))) ∙ sym taker ∙ now.1)
       not-proposed B q r v =
-          let p : IsProposed s past = offers.proposed s r (waited B s e past WaitsProposal refl (subst (λ d. early_state d s (e ∷ past) ≡ after_loss (loses_group_with d (group_on s past) e past) (group_on s past) (early_state d s past)) q (early-sender past under actor s dir reply posts)) v) in
+          let p : HasProposal s past = offers.proposed s r (waited B s e past WaitsProposal refl (subst (λ d. early_state d s (e ∷ past) ≡ after_loss (loses_group_with d (group_on s past) e past) (group_on s past) (early_state d s past)) q (early-sender past under actor s dir reply posts)) v) in
           none-is m (sym (ap head p.untaken_b) ∙ subst (λ d. head (untaken d s past) ≡ Some m) q (h r))
 
       accepted : (d : Side) → dir ≡ d → is_raw s past ≡ false → AreNamed (offered B s (e ∷ past)) (untaken B s (e ∷ past))

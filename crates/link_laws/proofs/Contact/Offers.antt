@@ -7,7 +7,7 @@ use Rattle.history_laws.proofs.Basics.{none-is, some-is}
 use Rattle.history_laws.specs.Offers.{is_own_state}
 use Rattle.history_laws.proofs.Offers.{loss-own}
 use Rattle.link_laws.specs.Contact.{AreCounted, AreLater, AreLaterIn, Contact, IsOfferedFirst, JoinedFirst, NoContact, OfferedFirst}
-use Rattle.link_laws.specs.Offered.{AreNamed, AreOffered, IsFresh, IsProposed}
+use Rattle.link_laws.specs.Offered.{AreNamed, AreOffered, IsFresh, HasProposal}
 use Rattle.link_laws.specs.Linked.{AreLatest, AreLinked, Under}
 use Rattle.link_laws.proofs.Contact.Changes.{Begins, IsJoining, IsKept, IsLaterOffer, IsMoved, IsPlain, IsSame, Joins, Kind, Moves, Plain, Readies}
 use Rattle.link_laws.proofs.Contact.Counted.{begun-grows, ended-cases, named-begun}
@@ -223,9 +223,9 @@ module _ (past : List Entry) (under : Option Under) (e : Entry) (linked : AreLin
       ended x g (inl h) = omega (arith, h.0, counted.at_most x, grows)
       ended x g (inr h) = omega (arith, offers.ended x g h, grows)
 
-      same-proposed : (s : ℕ) → IsSame s past under e → is_raw s (e ∷ past) ≡ false → end_state B s (e ∷ past) ≡ WaitsProposal → IsProposed s (e ∷ past)
+      same-proposed : (s : ℕ) → IsSame s past under e → is_raw s (e ∷ past) ≡ false → end_state B s (e ∷ past) ≡ WaitsProposal → HasProposal s (e ∷ past)
       same-proposed s k raw w =
-          let was : IsProposed s past = offers.proposed s (sym k.raw ∙ raw) (waited B s e past WaitsProposal refl (k.early B) w) in
+          let was : HasProposal s past = offers.proposed s (sym k.raw ∙ raw) (waited B s e past WaitsProposal refl (k.early B) w) in
           record {
             proposal = was.proposal;
             untaken_a = k.stream A ∙ was.untaken_a;
@@ -240,10 +240,10 @@ module _ (past : List Entry) (under : Option Under) (e : Entry) (linked : AreLin
           waits-parts : (s : ℕ) → end_state B s (e ∷ past) ≡ WaitsProposal → early_state B s (e ∷ past) ≡ WaitsProposal
           waits-parts s w = let h = state-parts B s (e ∷ past) WaitsProposal refl w in h.1
 
-      proposed : Kind past under e → (s : ℕ) → is_raw s (e ∷ past) ≡ false → end_state B s (e ∷ past) ≡ WaitsProposal → IsProposed s (e ∷ past)
+      proposed : Kind past under e → (s : ℕ) → is_raw s (e ∷ past) ≡ false → end_state B s (e ∷ past) ≡ WaitsProposal → HasProposal s (e ∷ past)
       proposed (Plain k) s raw w = by (k.socket s)
         where
-          by : IsSame s past under e ⊎ IsMoved s past under e → IsProposed s (e ∷ past)
+          by : IsSame s past under e ⊎ IsMoved s past under e → HasProposal s (e ∷ past)
           by (inl k) = same-proposed s k raw w
           by (inr k) = k.proposed raw w
       proposed (Begins t o k) s raw w = by (s == t) refl
@@ -254,7 +254,7 @@ module _ (past : List Entry) (under : Option Under) (e : Entry) (linked : AreLin
           confirm : WaitsConfirm ≡ WaitsProposal → ⊥
           confirm e = cc
 
-          by : (b : Bool) → (s == t) ≡ b → IsProposed s (e ∷ past)
+          by : (b : Bool) → (s == t) ≡ b → HasProposal s (e ∷ past)
           by true q = absurd (state-is s (λ z. confirm (sym k.early_b ∙ ap (λ n. early_state B n (e ∷ past)) (sym (eqb-true s t q)) ∙ z)) w)
           by false q = same-proposed s (kept.others s q) raw w
       proposed (Joins t m p k) s raw w = by (s == t) refl
@@ -262,9 +262,9 @@ module _ (past : List Entry) (under : Option Under) (e : Entry) (linked : AreLin
           kept : IsKept t past under e
           kept = k.kept
 
-          by : (b : Bool) → (s == t) ≡ b → IsProposed s (e ∷ past)
+          by : (b : Bool) → (s == t) ≡ b → HasProposal s (e ∷ past)
           by true q =
-              let was : IsProposed t past = offers.proposed t kept.not_raw (waited B t e past WaitsProposal refl k.early_b (subst (λ n. end_state B n (e ∷ past) ≡ WaitsProposal) (eqb-true s t q) w)) in
+              let was : HasProposal t past = offers.proposed t kept.not_raw (waited B t e past WaitsProposal refl k.early_b (subst (λ n. end_state B n (e ∷ past) ≡ WaitsProposal) (eqb-true s t q) w)) in
               absurd (ne-head (untaken B t past) (AcceptMessage m) k.accept was.untaken_b)
           by false q = same-proposed s (kept.others s q) raw w
       proposed (Readies t m k) s raw w = by (s == t) refl
@@ -272,7 +272,7 @@ module _ (past : List Entry) (under : Option Under) (e : Entry) (linked : AreLin
           kept : IsKept t past under e
           kept = k.kept
 
-          by : (b : Bool) → (s == t) ≡ b → IsProposed s (e ∷ past)
+          by : (b : Bool) → (s == t) ≡ b → HasProposal s (e ∷ past)
           by true q = absurd (state-is s (λ z. k.early_b (ap (λ n. early_state B n (e ∷ past)) (sym (eqb-true s t q)) ∙ z)) w)
           by false q = same-proposed s (kept.others s q) raw w
 
@@ -389,7 +389,7 @@ module _ (past : List Entry) (under : Option Under) (e : Entry) (linked : AreLin
           by (inr k) = k.accepted r
       accepted (Begins t p k) s r =
           let kept : IsKept t past under e = k.kept in
-          let was : IsProposed t past = offers.proposed t kept.not_raw k.waits in
+          let was : HasProposal t past = offers.proposed t kept.not_raw k.waits in
           accepted-kept s t kept (subst (λ o. AreNamed o (untaken B t (e ∷ past))) (sym k.named) (subst (λ ms. AreNamed (Some p) ms) (sym (k.untaken_b ∙ ap (λ ms. ms ++ AcceptMessage p.offer ∷ []) was.untaken_b)) ((p, (refl, refl)), tt))) r
       accepted (Joins t m p k) s r =
           let kept : IsKept t past under e = k.kept in

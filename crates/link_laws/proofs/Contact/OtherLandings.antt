@@ -4,9 +4,8 @@ use Rattle.pipe_model.specs.declared.flow.FlowStep.TheVariants.{Answered, Confir
 use Rattle.smc_num.specs.declared.LinkPhase.TheVariants.{Live as LiveLink}
 use Rattle.pipe_model.specs.Fabric.{acts, loses}
 use Rattle.std.specs.Prelude.{Option, option_map, unwrap_or}
-use Rattle.pipe_model.specs.Flows.{after_answer}
 use Rattle.pipe_model.specs.declared.flow.KeyPhase.TheVariants.{Asked, Free, Retry as RetryWaits}
-use Rattle.history_laws.specs.Words.{A, AddKeys, AddLink, AskLink, B, ConfirmLink, ConfirmRkey, DeleteLink, DeleteRkey, Deleting, Echo, Entry, Fabric, Flow, FlowStep, Forget, Gone, KeyPhase, KeyToken, Known, Learn, LinkId, LlcMessage, Offered, Over, Peer, Reject, ReplyAdd, ReplyKeys, ReplyRetry, Retry, SendKeys, Setup, Side, Skip, TestLink, Unused, Withdraw, at_slot, confirmed_by, fabric, flow_after, flow_of, is_adding, is_first_contact, is_pending, is_standing, is_whole, llc_step, named_slot, on_confirm_rkey_reply, on_delete_rkey_reply, peer, peer_of, phase_at, set_phase, step_posts, table_of, with_flow, with_peer, with_phase}
+use Rattle.history_laws.specs.Words.{A, AddKeys, AddLink, AskLink, B, ConfirmLink, ConfirmRkey, DeleteLink, DeleteRkey, Deleting, Echo, Entry, Fabric, Flow, FlowStep, Forget, Gone, KeyPhase, KeyToken, Known, Learn, LinkId, LlcMessage, Offered, Over, Peer, Reject, ReplyAdd, ReplyKeys, ReplyRetry, Retry, SendKeys, Setup, Side, Skip, TestLink, Unused, Withdraw, after_answer, at_slot, confirmed_by, fabric, flow_after, flow_of, is_adding, is_first_contact, is_pending, is_standing, is_whole, llc_step, named_slot, on_confirm_rkey_reply, on_delete_rkey_reply, peer, peer_of, phase_at, set_phase, step_posts, table_of, with_flow, with_peer, with_phase}
 use Rattle.history_laws.proofs.Posts.{AreWired}
 use Rattle.history_laws.proofs.Basics.{and-left}
 use Rattle.link_laws.proofs.Sound.{found-slot, set-at, set-beside, set-link}

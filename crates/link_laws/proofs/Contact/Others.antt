@@ -9,8 +9,7 @@ use Rattle.pipe_model.specs.declared.reply.Reply.TheVariants.{Idle, Sent}
 use Rattle.std.specs.Option.{option_or}
 use Rattle.pipe_model.specs.declared.reply.SentKind.TheVariants.{AddLink as AddLinkSent, DeleteRkey as DeleteSent, TestLink as TestSent}
 use Rattle.pipe_model.specs.declared.reply.Hold.TheVariants.{AddLink as AddLinkHold, ConfirmRkey as ConfirmRkeyHold, DeleteRkey as DeleteRkeyHold, FirstContact as FirstContactHold, TestLink as TestLinkHold}
-use Rattle.pipe_model.specs.Replies.{grow_to}
-use Rattle.history_laws.specs.Words.{A, Abandoned, Act, AddSeen, AddSent, B, Deleting, Done, Entry, Event, FirstContact, Flow, GroupEnded, Grow, Held, KeyPhase, KeysSent, Known, LinkFlow, LinkId, NoFlow, Peer, Pending, Post, Reply, Report, Setup, Side, Test, Trim, Unused, act_by, add_again, begins_delete, begins_test, confirmed_by, dead_at, deleting_rmbs, drop_posts, fabric, flow_of, flow_slot, group_of, grow_post, grow_told, has, head, is_adding, is_asked, is_asking_or_waiting, is_deleting, is_dropping, is_first_contact, is_live, is_nil, key_again, keys_of, link_or_none, loss_posts, lowest_live, offered, open_slots, pair_on, peer, peer_of, phase_at, report_posts, report_told, reports, resends_add, resends_key, standing_at, table_of, test_post, test_told, trim_post, trim_told, trimmed, with_peer}
+use Rattle.history_laws.specs.Words.{A, Abandoned, Act, AddSeen, AddSent, B, Deleting, Done, Entry, Event, FirstContact, Flow, GroupEnded, Grow, Held, KeyPhase, KeysSent, Known, LinkFlow, LinkId, NoFlow, Peer, Pending, Post, Reply, Report, Setup, Side, Test, Trim, Unused, act_by, add_again, begins_delete, begins_test, confirmed_by, dead_at, deleting_rmbs, drop_posts, fabric, flow_of, flow_slot, group_of, grow_post, grow_to, grow_told, has, head, is_adding, is_asked, is_asking_or_waiting, is_deleting, is_dropping, is_first_contact, is_live, is_nil, key_again, keys_of, link_or_none, loss_posts, lowest_live, offered, open_slots, pair_on, peer, peer_of, phase_at, report_posts, report_told, reports, resends_add, resends_key, standing_at, table_of, test_post, test_told, trim_post, trim_told, trimmed, with_peer}
 use Rattle.history_laws.proofs.Posts.{AreWired, data-wired, wired-append}
 use Rattle.history_laws.specs.Posts.{AreData}
 use Rattle.link_laws.specs.Linked.{AreLinked, Begins, Confirms, Goes, HasNone, IsOwn, IsSound, Under, is_own_flow, under_in}

@@ -10,7 +10,7 @@ use Rattle.link_laws.specs.Joined.{IsContacted}
 use Rattle.link_laws.specs.Offered.{AreOffered}
 use Rattle.link_laws.specs.Contact.{AreCounted, AreLater, Contact, IsBeyond, IsConfirming, IsJoinedFirst, IsOfferedFirst, JoinedFirst, NoContact, OfferedFirst}
 use Rattle.link_laws.proofs.Contact.Rows.{confirm-counts}
-use Rattle.link_laws.specs.Owed.{CanAsk, CanAskKey, CanJoin, IsTaken, Owed}
+use Rattle.link_laws.specs.Owed.{CanAsk, CanAskKey, CanJoin, IsTaken, OwedByHandshake}
 use Rattle.link_laws.proofs.Contact.Offers.{offered-row}
 use Rattle.link_laws.proofs.Contact.TakenAtA.{named-head}
 use Rattle.link_laws.proofs.Sound.{has-group}
@@ -152,5 +152,5 @@ module _ (setup : Setup) (payload : List ℕ) (past : List Entry) (under : Optio
     keys o t e = subst (λ st. OwesA s st) e (at-a (AcceptMessage o) t)
 
   -- all that the handshake owes after a history, from what first contact is there
-  pub owed : Owed setup payload past under
+  pub owed : OwedByHandshake setup payload past under
   owed = record { begins = counted.at_most A; joins = λ s dir m t e. joins s dir m t e; asks = λ s dir o t e f. asks s dir o t e f; keys = λ s o t e. keys s o t e }

@@ -6,7 +6,7 @@ use Rattle.history_laws.specs.Words.{A, B, ClcMessage, Entry, Fabric, FirstConta
 use Rattle.link_laws.specs.Contact.{AreCounted, AreLater, AreLaterIn, Contact, IsConfirming, IsJoinedFirst, IsOfferedFirst, JoinedFirst, NoContact, OfferedFirst}
 use Rattle.link_laws.proofs.Contact.Counted.{ended-cases, ended-now, ended-stays}
 use Rattle.link_laws.proofs.Contact.Changes.{AreLaterOnly, Begins, IsBeginning, IsJoining, IsKept, IsMoved, IsPlain, IsReady, IsSame, IsStreamed, Joins, Kind, Moves, Plain, Readies}
-use Rattle.link_laws.specs.Offered.{AreOffered, IsFresh, IsProposed}
+use Rattle.link_laws.specs.Offered.{AreOffered, IsFresh, HasProposal}
 use Rattle.link_laws.proofs.Contact.Offers.{joined-next, ne-head, not-first-confirm, offered-row}
 use Rattle.link_laws.specs.Linked.{AreLinked, IsOwn, Under, under_in}
 use Rattle.link_laws.proofs.Contact.Beyond.{first-has-group}
@@ -236,7 +236,7 @@ module _ (past : List Entry) (under : Option Under) (e : Entry) (linked : AreLin
         kept : IsKept s past under e
         kept = k.kept
 
-        proposed : IsProposed s past
+        proposed : HasProposal s past
         proposed = offers.proposed s kept.not_raw k.waits
 
         was : (is_up B s past ≡ false) × (early_state B s past ≡ WaitsProposal)

@@ -8,7 +8,7 @@ use Rattle.history_laws.specs.Words.{A, Abort, Await, B, Close, Complete, Cut, D
 use Rattle.history_laws.specs.Posts.{AreData}
 use Rattle.history_laws.proofs.Basics.{by-side, none-is}
 use Rattle.history_laws.proofs.Posts.{connections-data}
-use Rattle.history_laws.specs.Made.{IsMadeAny}
+use Rattle.history_laws.specs.Made.{IsMade}
 use Rattle.history_laws.specs.Offers.{is_own_state}
 use Rattle.link_laws.specs.Linked.{AreLinked, Under, under_in}
 use Rattle.link_laws.specs.UnderWay.{AreCarriedOf, link_kind}
@@ -77,14 +77,14 @@ module _ (setup : Setup) (payload : List ℕ) (past : List Entry) (under : Optio
   contacted-after event after quiet = contacted-by past under (record { actor = actor; event = event; reply = reply_of n (told setup payload past event); posts = posted setup payload past n event }) after quiet linked carried all (kinds event (connection_posts setup payload (draft setup payload past n event) past) (connections-data setup payload (draft setup payload past n event) past))
 
 -- which kind of entry one is that has just the reply and the posts of the definitions
-pub kind-given : (setup : Setup) (payload : List ℕ) (past : List Entry) (under : Option Under) (n : ℕ) (e : Entry) → IsMadeAny setup payload past n e → AreLinked (fabric past) under → AreCarriedOf link_kind past under → IsContacted past under → Kind past under e
+pub kind-given : (setup : Setup) (payload : List ℕ) (past : List Entry) (under : Option Under) (n : ℕ) (e : Entry) → IsMade setup payload past n e → AreLinked (fabric past) under → AreCarriedOf link_kind past under → IsContacted past under → Kind past under e
 kind-given setup payload past under n e given linked carried all =
     subst (λ r. Kind past under (record { actor = e.actor; event = e.event; reply = r; posts = e.posts })) (sym given.reply)
     (subst (λ ps. Kind past under (record { actor = e.actor; event = e.event; reply = reply_of n (told setup payload past e.event); posts = ps })) (sym given.posts)
     (kinds setup payload past under n e.actor linked carried all e.event (connection_posts setup payload (draft setup payload past n e.event) past) (connections-data setup payload (draft setup payload past n e.event) past)))
 
 -- the step: after an entry that has just the reply and the posts of the definitions, offers, rows, counts and "beyond" hold again
-pub contacted : (setup : Setup) (payload : List ℕ) (past : List Entry) (under : Option Under) (n : ℕ) (e : Entry) → IsMadeAny setup payload past n e → (after : Option Under) → IsQuiet past under e after → AreLinked (fabric past) under → AreCarriedOf link_kind past under → IsContacted past under → IsContacted (e ∷ past) after
+pub contacted : (setup : Setup) (payload : List ℕ) (past : List Entry) (under : Option Under) (n : ℕ) (e : Entry) → IsMade setup payload past n e → (after : Option Under) → IsQuiet past under e after → AreLinked (fabric past) under → AreCarriedOf link_kind past under → IsContacted past under → IsContacted (e ∷ past) after
 contacted setup payload past under n e given after quiet linked carried all = by quiet
   where
     by : IsQuiet past under e after → IsContacted (e ∷ past) after

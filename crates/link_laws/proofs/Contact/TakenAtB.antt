@@ -11,8 +11,7 @@ use Rattle.pipe_model.specs.declared.reply.SentKind.TheVariants.{Accept as Accep
 use Rattle.std.specs.Option.{option_or}
 use Rattle.smc_num.specs.declared.LinkPhase.TheVariants.{Live as LiveLink}
 use Rattle.pipe_model.specs.Handshake.{kind_of}
-use Rattle.pipe_model.specs.Messages.{confirm_link}
-use Rattle.history_laws.specs.Words.{A, AskKey, B, BadClc, BadStep, ClcFault, ClcMessage, ClcStep, Decline, Declined, EndState, Entry, Established, Faulty, Fell, FellBack, Flow, Front, HasFallen, Held, Hold, IsUp, Lack, Lacks, LinkId, Lost, NoEnd, NoLiveLink, NoMessage, NoSubnet, Offer, Offered, Post, Proposal, Ready, Refusal, Reply, Reset, SendAccept, Setup, Side, Wait, WaitsAnswer, WaitsConfirm, WaitsLink, WaitsProposal, WasReset, Whole, Wrong, after_clc, after_loss, clc_posts, clc_told, end_state, expects, fabric, fewest, first_link, flow_of, front, front_of, front_posts, front_told, group_of, group_on, groups_begun, head, is_first_contact, is_raw, keys_of, lacks, link_at, loses_group_with, named_link, new_offer, next_free, no_link, offer_in, offered, offered_if, pair_on, peer_of, phase_at, refusal, rkey_post, step_told, stream, table_of, takes_message, untaken, up_by}
+use Rattle.history_laws.specs.Words.{A, AskKey, B, BadClc, BadStep, ClcFault, ClcMessage, ClcStep, Decline, Declined, EndState, Entry, Established, Faulty, Fell, FellBack, Flow, Front, HasFallen, Held, Hold, IsUp, Lack, Lacks, LinkId, Lost, NoEnd, NoLiveLink, NoMessage, NoSubnet, Offer, Offered, Post, Proposal, Ready, Refusal, Reply, Reset, SendAccept, Setup, Side, Wait, WaitsAnswer, WaitsConfirm, WaitsLink, WaitsProposal, WasReset, Whole, Wrong, after_clc, after_loss, clc_posts, clc_told, confirm_link, end_state, expects, fabric, fewest, first_link, flow_of, front, front_of, front_posts, front_told, group_of, group_on, groups_begun, head, is_first_contact, is_raw, keys_of, lacks, link_at, loses_group_with, named_link, new_offer, next_free, no_link, offer_in, offered, offered_if, pair_on, peer_of, phase_at, refusal, rkey_post, step_told, stream, table_of, takes_message, untaken, up_by}
 use Rattle.history_laws.proofs.Posts.{AreWired, begins-nothing, data-wired, offers-nothing, says-nothing}
 use Rattle.history_laws.specs.Posts.{AreData}
 use Rattle.history_laws.specs.Offers.{is_own_state}
@@ -21,7 +20,7 @@ use Rattle.history_laws.proofs.Offers.{loss-own}
 use Rattle.link_laws.proofs.Contact.Same.{is_waiting_state, loss-keeps, state-parts}
 use Rattle.link_laws.proofs.Contact.Messages.{beside, early-sender, early-taker, held, offers-across, offers-beside, says-across, says-beside, says-here, stream-taken, stream-taker, up-same}
 use Rattle.link_laws.specs.Linked.{AreLinked, Under, under_in}
-use Rattle.link_laws.specs.Offered.{AreNamed, AreOffered, IsProposed}
+use Rattle.link_laws.specs.Offered.{AreNamed, AreOffered, HasProposal}
 use Rattle.link_laws.specs.Contact.{AreCounted, IsConfirming, IsJoinedFirst, IsOfferedFirst}
 use Rattle.link_laws.proofs.Contact.Changes.{AreLaterOnly, Begins, IsLaterOffer, IsMoved, IsSame, IsStarting, Kind, Moves, Plain, Readies}
 use Rattle.link_laws.proofs.Contact.Elsewhere.{append-none, data-under, moves-same, no-group-begun, offer-by}
@@ -160,7 +159,7 @@ module _ (setup : Setup) (payload : List ℕ) (past : List Entry) (under : Optio
   accepts-later : (raw : Bool) (p : Proposal) → facts.first_contact ≡ false → (facts.group == 0) ≡ false → P raw WaitsProposal (ProposalMessage p) (SendAccept false)
   accepts-later raw p first ne r is ex h pe = to (Sent AcceptSent) _ _ pe (said (Sent AcceptSent) (Some (fewest setup payload past)) (AcceptMessage offer) (ProposalMessage p) WaitsProposal h refl proposal-some is refl refl confirming (refl, tt)
       (λ o e. inr (subst (λ q. IsLaterOffer B q past) (some-is (record { link = fewest setup payload past; offer = offer }) o (sym now ∙ e)) new))
-      (λ r. let was : IsProposed s past = offers.proposed s r is in subst (λ o. AreNamed o (untaken B s past ++ AcceptMessage offer ∷ [])) (sym now) (subst (λ ms. AreNamed (Some (record { link = fewest setup payload past; offer = offer })) (ms ++ AcceptMessage offer ∷ [])) (sym was.untaken_b) ((record { link = fewest setup payload past; offer = offer }, (refl, refl)), tt)))
+      (λ r. let was : HasProposal s past = offers.proposed s r is in subst (λ o. AreNamed o (untaken B s past ++ AcceptMessage offer ∷ [])) (sym now) (subst (λ ms. AreNamed (Some (record { link = fewest setup payload past; offer = offer })) (ms ++ AcceptMessage offer ∷ [])) (sym was.untaken_b) ((record { link = fewest setup payload past; offer = offer }, (refl, refl)), tt)))
       refl refl (data-under rest data_rest) (ap (λ (ps : List Post). groups_begun past + length ps) (begins-nothing rest wired) ∙ omega arith))
     where
       offer : Offer

@@ -1,10 +1,10 @@
 -- The verdicts on a CLC message, one by one, each with what it says of the side that judges.
 use Rattle.std.proofs.Common.{Bool, false, if◌then◌else◌, not, refl, subst, sym, true, ◌&&◌, ◌==◌, ◌≡◌}
 use Rattle.clc_wire.specs.declared.message.ClcMessage.TheVariants.{Accept as AcceptMessage, Confirm as ConfirmMessage, Decline as DeclineMessage, Proposal as ProposalMessage}
-use Rattle.pipe_model.specs.Handshake.{kind_of}
+use Rattle.pipe_model.specs.Handshake.{kind_of, verdict}
 use Rattle.pipe_model.specs.declared.reply.Hold.TheVariants.{AddLink as AddLinkHold, ConfirmRkey as ConfirmRkeyHold, DeleteRkey as DeleteRkeyHold, FirstContact as FirstContactHold}
 use Rattle.pipe_model.specs.declared.reply.Lack.TheVariants.{Raw}
-use Rattle.history_laws.specs.Words.{AskKey, ClcMessage, ClcStep, Decline, EndState, Fell, GroupLost, HasFallen, Hold, IsUp, Lack, Lacks, Lost, NoClientElement, NoEnd, NoServerElement, NoSlot, NoSubnet, Offer, OldGroup, Proposal, Ready, Refusal, SendAccept, SendConfirm, Wait, WaitsAnswer, WaitsConfirm, WaitsLink, WaitsProposal, WasReset, Wrong, first_contact_step, is_asked, is_deleting, key_step, on_accept, on_first_accept, on_later_accept, on_proposal, verdict}
+use Rattle.history_laws.specs.Words.{AskKey, ClcMessage, ClcStep, Decline, EndState, Fell, GroupLost, HasFallen, Hold, IsUp, Lack, Lacks, Lost, NoClientElement, NoEnd, NoServerElement, NoSlot, NoSubnet, Offer, OldGroup, Proposal, Ready, Refusal, SendAccept, SendConfirm, Wait, WaitsAnswer, WaitsConfirm, WaitsLink, WaitsProposal, WasReset, Wrong, first_contact_step, is_asked, is_deleting, key_step, on_accept, on_first_accept, on_later_accept, on_proposal}
 
 -- whether an end that waits so has a rule for the message
 abbrev pub is_awaited : Bool → EndState → ClcMessage → Bool

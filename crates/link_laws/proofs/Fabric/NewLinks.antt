@@ -9,7 +9,7 @@ use Rattle.history_laws.specs.Tables.{Rises}
 use Rattle.history_laws.proofs.Tables.{map-rises}
 use Rattle.history_laws.proofs.Basics.{some-is}
 use Rattle.link_laws.specs.Moves.{Moves, OwedByMoves}
-use Rattle.link_laws.specs.Learnt.{Begins}
+use Rattle.link_laws.specs.Learnt.{BeginsFirst}
 use Rattle.link_laws.proofs.Sound.{all-none, live-stands, none-stands, phase-link, put-link, put-stands, set-link, stands-at, stood}
 use Rattle.link_laws.specs.FabricChanges.{OffersFirst}
 use Rattle.link_laws.proofs.Fabric.Entries.{fabric-after}
@@ -19,14 +19,14 @@ module _ (e : Entry) (past : List Entry) (owed : OwedByMoves e past) where
   f = fabric past
 
   -- one side changes, and nothing stands newly there
-  alone : (x : Side) (p : Peer) → ((l : LinkId) → stands l p.table ≡ true → stands l (peer x f).table ≡ true) → ((p.group ≡ (peer x f).group) ⊎ ((p.group ≡ 0) ⊎ Begins x e)) → Moves e f (with_peer x p f)
+  alone : (x : Side) (p : Peer) → ((l : LinkId) → stands l p.table ≡ true → stands l (peer x f).table ≡ true) → ((p.group ≡ (peer x f).group) ⊎ ((p.group ≡ 0) ⊎ BeginsFirst x e)) → Moves e f (with_peer x p f)
   alone A p st gr = record { fresh = fr; made = λ j. omega arith; groups = go }
     where
       fr : (z : Side) (l : LinkId) → stands l (peer z (with_peer A p f)).table ≡ true → (stands l (peer z f).table ≡ true) ⊎ (made_on l.slot f < l.incarnation)
       fr A l s = inl (st l s)
       fr B l s = inl s
 
-      go : (z : Side) → ((peer z (with_peer A p f)).group ≡ (peer z f).group) ⊎ (((peer z (with_peer A p f)).group ≡ 0) ⊎ Begins z e)
+      go : (z : Side) → ((peer z (with_peer A p f)).group ≡ (peer z f).group) ⊎ (((peer z (with_peer A p f)).group ≡ 0) ⊎ BeginsFirst z e)
       go A = gr
       go B = inl refl
   alone B p st gr = record { fresh = fr; made = λ j. omega arith; groups = go }
@@ -35,7 +35,7 @@ module _ (e : Entry) (past : List Entry) (owed : OwedByMoves e past) where
       fr A l s = inl s
       fr B l s = inl (st l s)
 
-      go : (z : Side) → ((peer z (with_peer B p f)).group ≡ (peer z f).group) ⊎ (((peer z (with_peer B p f)).group ≡ 0) ⊎ Begins z e)
+      go : (z : Side) → ((peer z (with_peer B p f)).group ≡ (peer z f).group) ⊎ (((peer z (with_peer B p f)).group ≡ 0) ⊎ BeginsFirst z e)
       go A = inl refl
       go B = gr
 
@@ -60,7 +60,7 @@ module _ (e : Entry) (past : List Entry) (owed : OwedByMoves e past) where
       fr A l s = new-stands link l f.a.table next (ap (λ t. stands l (put (record { link = link; phase = Pending }) t)) (sym pt) ∙ s)
       fr B l s = new-stands link l f.b.table next (ap (λ t. stands l (put (record { link = link; phase = Pending }) t)) (sym qt) ∙ s)
 
-      go : (z : Side) → ((peer z (makes link (record f { a = p; b = q }))).group ≡ (peer z f).group) ⊎ (((peer z (makes link (record f { a = p; b = q }))).group ≡ 0) ⊎ Begins z e)
+      go : (z : Side) → ((peer z (makes link (record f { a = p; b = q }))).group ≡ (peer z f).group) ⊎ (((peer z (makes link (record f { a = p; b = q }))).group ≡ 0) ⊎ BeginsFirst z e)
       go A = inl pg
       go B = inl qg
 
@@ -71,7 +71,7 @@ module _ (e : Entry) (past : List Entry) (owed : OwedByMoves e past) where
       fr A l s = elim (new-stands link l [] (owed.next link o it) s) [ inl h ↦ absurd (true≢false (sym h)) | inr h ↦ inr h ]
       fr B l s = new-stands link l f.b.table (owed.next link o it) s
 
-      go : (z : Side) → ((peer z (makes link (with_peer A (begins_group link.group) f))).group ≡ (peer z f).group) ⊎ (((peer z (makes link (with_peer A (begins_group link.group) f))).group ≡ 0) ⊎ Begins z e)
+      go : (z : Side) → ((peer z (makes link (with_peer A (begins_group link.group) f))).group ≡ (peer z f).group) ⊎ (((peer z (makes link (with_peer A (begins_group link.group) f))).group ≡ 0) ⊎ BeginsFirst z e)
       go A = inr (inr (record { link = link; offer = o; offers = it }))
       go B = inl refl
 
@@ -90,7 +90,7 @@ module _ (e : Entry) (past : List Entry) (owed : OwedByMoves e past) where
       by true = inr refl
       by false = inl refl
 
-  goes : (x : Side) (n m : ℕ) → (n ≡ m) ⊎ (n ≡ 0) → (n ≡ m) ⊎ ((n ≡ 0) ⊎ Begins x e)
+  goes : (x : Side) (n m : ℕ) → (n ≡ m) ⊎ (n ≡ 0) → (n ≡ m) ⊎ ((n ≡ 0) ⊎ BeginsFirst x e)
   goes x n m (inl h) = inl h
   goes x n m (inr h) = inr (inl h)
 

@@ -1,9 +1,9 @@
 -- Which steps B takes with a landed message: none makes a link; it tells its keys for the slot of its flow, and then asks to confirm that link. And what key steps say of the key flow at both sides.
 use Rattle.std.proofs.Common.{Bool, ap, sym, eqb-true, false, if◌then◌else◌, not, refl, true, ℕ, ◌&&◌, ◌==◌, ◌||◌, ◌≡◌}
-use Rattle.pipe_model.specs.Flows.{LinkSent, on_confirm_rkey}
+use Rattle.pipe_model.specs.Flows.{LinkSent}
 use Rattle.pipe_model.specs.declared.flow.KeyPhase.TheVariants.{Asked, Free, Retry as RetryWaits}
 use Rattle.pipe_model.specs.declared.flow.FlowStep.TheVariants.{Confirmed, Live}
-use Rattle.history_laws.specs.Words.{A, Abandoned, AddKeys, AddLink, AddSeen, AddSent, AskLink, B, ConfirmLink, ConfirmRkey, DeleteLink, DeleteRkey, Deleting, FirstContact, Flow, FlowStep, KeyPhase, KeysSent, Learn, LinkFlow, LinkView, LlcMessage, NoFlow, Over, Reject, ReplyAdd, ReplyKeys, ReplyRetry, Retry, SendKeys, Side, Skip, TestLink, Withdraw, flow_slot, flow_step, is_adding, is_asked, is_deleting, named_slot, on_add_keys, on_add_keys_reply, on_add_link, on_add_link_reject, on_add_link_reply, on_confirm_link, on_confirm_link_reply, on_confirm_rkey_reply, on_delete_rkey_reply, on_new_link}
+use Rattle.history_laws.specs.Words.{A, Abandoned, AddKeys, AddLink, AddSeen, AddSent, AskLink, B, ConfirmLink, ConfirmRkey, DeleteLink, DeleteRkey, Deleting, FirstContact, Flow, FlowStep, KeyPhase, KeysSent, Learn, LinkFlow, LinkView, LlcMessage, NoFlow, Over, Reject, ReplyAdd, ReplyKeys, ReplyRetry, Retry, SendKeys, Side, Skip, TestLink, Withdraw, flow_slot, flow_step, is_adding, is_asked, is_deleting, named_slot, on_add_keys, on_add_keys_reply, on_add_link, on_add_link_reject, on_add_link_reply, on_confirm_link, on_confirm_link_reply, on_confirm_rkey, on_confirm_rkey_reply, on_delete_rkey_reply, on_new_link}
 
 -- what is claimed of a step that B takes, its link flow being that and the message naming that slot
 abbrev pub StepsB : LinkFlow → ℕ → FlowStep → Type 0

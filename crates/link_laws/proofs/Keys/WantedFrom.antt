@@ -1,10 +1,9 @@
 -- The links on whose slots a side has keys, after any entry: there before, or just made, told or begun.
 use Rattle.std.proofs.Common.{Bool, List, None, Some, [], ap, eq-eqb, eqb-true, false, if◌then◌else◌, inl, inr, refl, subst, sym, true, true≢false, ℕ, ◌==◌, ◌∙◌, ◌∷◌, ◌≡◌, ◌⊎◌}
-use Rattle.pipe_model.specs.Flows.{after_answer}
 use Rattle.pipe_model.specs.Fabric.{does}
 use Rattle.pipe_model.specs.declared.flow.FlowStep.TheVariants.{Answered, Confirmed, Live}
 use Rattle.smc_num.specs.declared.LinkPhase.TheVariants.{Live as LiveLink}
-use Rattle.history_laws.specs.Words.{A, Act, AddKeys, AddLink, AskLink, B, ConfirmLink, ConfirmRkey, DeleteLink, DeleteRkey, Echo, Entry, Fabric, Flow, FlowStep, Forget, Gone, Known, Learn, LinkId, LlcMessage, Offer, Over, Peer, Pending, Reject, ReplyAdd, ReplyKeys, ReplyRetry, Retry, SendKeys, Side, Skip, TestLink, Withdraw, act_in, begins_group, fabric, flow_after, is_live, is_whole, link_at, llc_step, lowest_live, makes, named_slot, peer, phase_at, put, reports, set_phase, table_of, view_of, with_peer}
+use Rattle.history_laws.specs.Words.{A, Act, AddKeys, AddLink, AskLink, B, ConfirmLink, ConfirmRkey, DeleteLink, DeleteRkey, Echo, Entry, Fabric, Flow, FlowStep, Forget, Gone, Known, Learn, LinkId, LlcMessage, Offer, Over, Peer, Pending, Reject, ReplyAdd, ReplyKeys, ReplyRetry, Retry, SendKeys, Side, Skip, TestLink, Withdraw, act_in, after_answer, begins_group, fabric, flow_after, is_live, is_whole, link_at, llc_step, lowest_live, makes, named_slot, peer, phase_at, put, reports, set_phase, table_of, view_of, with_peer}
 use Rattle.history_laws.proofs.Basics.{none-is, or-left, or-parts, or-true, some-is}
 use Rattle.link_laws.specs.Covered.{NowBegun, NowMade, NowTold, OwedByFlows, Wanted, WasWanted, wants_keys}
 use Rattle.link_laws.proofs.Keys.Wanted.{WasSo, flows-so, loses-so, reports-so}

@@ -9,7 +9,7 @@ use Rattle.pipe_model.specs.declared.reply.Reply.TheVariants.{Idle}
 use Rattle.clc_wire.specs.declared.message.ClcMessage.TheVariants.{Accept as AcceptMessage, Confirm as ConfirmMessage}
 use Rattle.std.specs.Option.{option_or}
 use Rattle.history_laws.specs.Words.{A, Act, B, Cdc, Deliver, Dropped, Entry, Landed, LinkId, Llc, Offer, Placed, Post, PostRef, SendConfirm, Setup, Side, act_in, act_of, confirm_post, deliver_told, expects, fabric, is_on, lands_told, llc_step, named_link, new_offer, no_link, other, post_at, record_of, reply_of}
-use Rattle.history_laws.specs.Made.{IsMadeAll, IsMadeAny}
+use Rattle.history_laws.specs.Made.{IsMadeAll, IsMade}
 use Rattle.history_laws.proofs.Basics.{none-is, some-is}
 use Rattle.history_laws.specs.Posts.{AreData, AreFree, IsFree, is_data}
 use Rattle.history_laws.specs.Lists.{IsAmong}
@@ -18,7 +18,7 @@ use Rattle.history_laws.specs.Offers.{Confirms, Offers, OffersAccept, OffersConf
 use Rattle.link_laws.specs.Linked.{AreLinked, StandsAtBoth, Under}
 use Rattle.link_laws.proofs.UnderWay.{GoesOn, Grows, IsLanding, any-goes, both-stand, landing-is, own-message}
 use Rattle.link_laws.specs.FabricChanges.{OffersFirst}
-use Rattle.link_laws.specs.Owed.{CanJoin, Owed}
+use Rattle.link_laws.specs.Owed.{CanJoin, OwedByHandshake}
 use Rattle.link_laws.proofs.Fabric.{act-lands}
 use Rattle.link_laws.specs.Lasting.{AllFlows}
 use Rattle.link_laws.specs.UnderWay.{HasFlows}
@@ -34,7 +34,7 @@ pub record Entered (e : Entry) (past : List Entry) : Type 0 where
   pub joins : (link : LinkId) (o : Offer) → OffersFirst A e link o → CanJoin link past
 
 -- what lands with an entry is on a link that stands at both sides
-pub lands-on : (setup : Setup) (payload : List ℕ) (past : List Entry) (before : ℕ) (e : Entry) → IsMadeAny setup payload past before e → (x : Side) (act : Act) → act_in x e past ≡ Some act → StandsAtBoth act.link (fabric past)
+pub lands-on : (setup : Setup) (payload : List ℕ) (past : List Entry) (before : ℕ) (e : Entry) → IsMade setup payload past before e → (x : Side) (act : Act) → act_in x e past ≡ Some act → StandsAtBoth act.link (fabric past)
 lands-on setup payload past before e made x act is = let a = act-lands x e.event e.reply past act is in at a.0 a.1.0 a.1.1.0 a.1.1.1.0 a.1.1.1.1
   where
     at : (slot : ℕ) → e.event ≡ Deliver slot (other x) → (p : PostRef) → act_of x (post_at p past) past ≡ Some act → e.reply ≡ Landed p → StandsAtBoth act.link (fabric past)
@@ -76,7 +76,7 @@ data-among s link o [] f i = i
 data-among s link o (p ∷ ps) f i = elim i [ inl h ↦ true≢false (sym (ap is_data h ∙ f.0)) | inr h ↦ data-among s link o ps f.1 h ]
 
 -- A's offer of first contact is made where B waits for it
-pub joins-with : (setup : Setup) (payload : List ℕ) (past : List Entry) (before : ℕ) (e : Entry) → IsMadeAny setup payload past before e → IsMadeAll setup payload past → (under : Option Under) → Owed setup payload past under → (link : LinkId) (o : Offer) → OffersFirst A e link o → CanJoin link past
+pub joins-with : (setup : Setup) (payload : List ℕ) (past : List Entry) (before : ℕ) (e : Entry) → IsMade setup payload past before e → IsMadeAll setup payload past → (under : Option Under) → OwedByHandshake setup payload past under → (link : LinkId) (o : Offer) → OffersFirst A e link o → CanJoin link past
 joins-with setup payload past before e made all under owed link o it = by (of-entry setup payload past before e made (states setup payload past all) (all-offers setup payload past all)) it.posted
   where
     by : Offers setup payload e past → IsAmong (Clc A it.s (Some link) (ConfirmMessage o)) e.posts → CanJoin link past
@@ -107,7 +107,7 @@ joins-with setup payload past before e made all under owed link o it = by (of-en
 pub entered : (setup : Setup) (payload : List ℕ) (e : Entry) (past : List Entry) → IsMadeAll setup payload (e ∷ past) → AllFlows setup payload (e ∷ past) → Entered e past
 entered setup payload e past all flows = by all.0.0 all.0.1 flows.0.0 flows.0.1
   where
-    by : (before : ℕ) → IsMadeAny setup payload past before e → (h : HasFlows past) → Owed setup payload past h.under → Entered e past
+    by : (before : ℕ) → IsMade setup payload past before e → (h : HasFlows past) → OwedByHandshake setup payload past h.under → Entered e past
     by before made h owed = at (any-goes setup payload past h owed before e (record { reply = made.reply; posts = made.posts }))
       where
         at : GoesOn e past h.under → Entered e past

@@ -1,12 +1,12 @@
 -- What an entry does to a side: its group stays, and phases change or a link is made on a slot without a live one; or its group ends; or it
 -- begins one, with no live link.
 use Rattle.std.proofs.Common.{Bool, List, [], ap, false, if◌then◌else◌, inl, inr, map, not, refl, subst, sym, true, ℕ, ◌&&◌, ◌==◌, ◌||◌, ◌∙◌, ◌∷◌, ◌≡◌, ◌⊎◌}
-use Rattle.pipe_model.specs.Flows.{LinkSent, on_confirm_rkey}
+use Rattle.pipe_model.specs.Flows.{LinkSent}
 use Rattle.pipe_model.specs.declared.flow.FlowStep.TheVariants.{Confirmed, Live}
 use Rattle.pipe_model.specs.declared.flow.KeyPhase.TheVariants.{Asked, Free as FreeKey, Retry as RetryWaits}
 use Rattle.pipe_model.specs.Fabric.{does, loses}
 use Rattle.smc_num.specs.declared.LinkPhase.TheVariants.{Live as LiveLink}
-use Rattle.history_laws.specs.Words.{A, Abandoned, AddKeys, AddLink, AddSeen, AddSent, B, ConfirmLink, ConfirmRkey, Dead, DeleteLink, DeleteRkey, Deleting, Entry, Fabric, FirstContact, Flow, FlowStep, Gone, KeyPhase, KeysSent, Known, LinkFlow, LinkId, LinkPhase, LinkView, LlcMessage, NoFlow, Offer, Peer, Pending, Reject, ReplyAdd, Retry, Side, Skip, TestLink, begins_drop, begins_group, ends_group, fabric, flow_after, flow_step, goes_on, is_live, is_standing, is_whole, live_links, llc_step, lowest_live, makes, named_slot, on_add_keys, on_add_link, on_confirm_link, on_confirm_rkey_reply, on_delete_rkey_reply, on_new_link, peer, phase_at, put, reports, set_phase, stands, view_of, with_flow, with_peer, with_phase, without_slot}
+use Rattle.history_laws.specs.Words.{A, Abandoned, AddKeys, AddLink, AddSeen, AddSent, B, ConfirmLink, ConfirmRkey, Dead, DeleteLink, DeleteRkey, Deleting, Entry, Fabric, FirstContact, Flow, FlowStep, Gone, KeyPhase, KeysSent, Known, LinkFlow, LinkId, LinkPhase, LinkView, LlcMessage, NoFlow, Offer, Peer, Pending, Reject, ReplyAdd, Retry, Side, Skip, TestLink, begins_drop, begins_group, ends_group, fabric, flow_after, flow_step, goes_on, is_live, is_standing, is_whole, live_links, llc_step, lowest_live, makes, named_slot, on_add_keys, on_add_link, on_confirm_link, on_confirm_rkey, on_confirm_rkey_reply, on_delete_rkey_reply, on_new_link, peer, phase_at, put, reports, set_phase, stands, view_of, with_flow, with_peer, with_phase, without_slot}
 use Rattle.history_laws.proofs.Basics.{standing-live}
 use Rattle.link_laws.specs.FabricChanges.{OffersFirst}
 use Rattle.link_laws.proofs.Lasting.Fates.{NoneLiveOf}

@@ -10,7 +10,7 @@ use Rattle.smc_num.specs.declared.LinkPhase.TheVariants.{Live as LiveLink}
 use Rattle.history_laws.specs.Words.{Dead, Deleting, Entry, Flow, Key, KeyPhase, LinkId, Llc, LlcMessage, Peer, Post, Side, TestLink, all_dead, deleting_rmbs, ends_group, fabric, flow_of, goes_on, is_asked, is_dead, is_deleting, is_standing, key_again, keys_of, link_or_none, loss_posts, lowest_live, peer, phase_at, resends_key, set_phase, stands, table_of, without_slot, Setup}
 use Rattle.history_laws.proofs.Basics.{and-both, same-self, some-is}
 use Rattle.link_laws.specs.Linked.{AreFlowing, AreLinked, IsOwn, Under, phases}
-use Rattle.link_laws.specs.KeyFlows.{HasKeys, is_key_of, key_fits, key_kind}
+use Rattle.link_laws.specs.KeyFlows.{HasKeyFlow, is_key_of, key_fits, key_kind}
 use Rattle.link_laws.specs.UnderWay.{AreCarriedOf, HasFlows, kind_in}
 use Rattle.link_laws.proofs.Requests.KeyUnder.{delete-again, key-again, key-lost}
 use Rattle.link_laws.proofs.Requests.KeyPosts.{fits-carrier, key_part, keys-loss}
@@ -42,7 +42,7 @@ again-some x p keys rmbs k f low slot Deleting is r w e = own-fits x (link_or_no
 again-some x p keys rmbs k f low slot Free is r w e = let h = and-both (is_asked f.key || is_deleting f.key) (f.on == k) r in absurd (true≢false (sym h.0 ∙ ap (λ k. is_asked k || is_deleting k) is))
 again-some x p keys rmbs k f low slot RetryWaits is r w e = let h = and-both (is_asked f.key || is_deleting f.key) (f.on == k) r in absurd (true≢false (sym h.0 ∙ ap (λ k. is_asked k || is_deleting k) is))
 
-module _ (x : Side) (past : List Entry) (flows : HasFlows past) (all : HasKeys x past) where
+module _ (x : Side) (past : List Entry) (flows : HasFlows past) (all : HasKeyFlow x past) where
   linked : AreLinked (fabric past) flows.under
   linked = flows.linked
 

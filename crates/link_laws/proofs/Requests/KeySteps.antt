@@ -3,6 +3,7 @@ use Rattle.std.proofs.Common.{Bool, List, None, Some, [], ap, eq-eqb, false, if�
 use Rattle.std.specs.Prelude.{Option, is_some, option_map, slice_index_or, unwrap_or}
 use Rattle.std.specs.Option.{option_or}
 use Rattle.pipe_model.specs.declared.reply.Hold.TheVariants.{AddLink as AddLinkHold, ConfirmRkey as ConfirmRkeyHold, DeleteRkey as DeleteRkeyHold, FirstContact as FirstContactHold}
+use Rattle.pipe_model.specs.Handshake.{verdict}
 use Rattle.clc_wire.specs.declared.message.ClcMessage.TheVariants.{Accept as AcceptMessage, Confirm as ConfirmMessage, Decline as DeclineMessage, Proposal as ProposalMessage}
 use Rattle.pipe_model.specs.Fabric.{does, lands as lands_at, loses}
 use Rattle.pipe_model.specs.Wires.{landing}
@@ -13,14 +14,14 @@ use Rattle.pipe_model.specs.declared.flow.KeyPhase.TheVariants.{Asked}
 use Rattle.pipe_model.specs.declared.reply.SentKind.TheVariants.{Accept as AcceptSent, AddLink as AddLinkSent, Confirm as ConfirmSent, DeleteRkey as DeleteSent, ConfirmRkey as KeySent, ConfirmLink as LinkSent, TestLink as TestSent}
 use Rattle.pipe_model.specs.declared.event.Event.TheVariants.{Clc, Raw, Write}
 use Rattle.pipe_model.specs.Replies.{told}
-use Rattle.history_laws.specs.Words.{A, Abort, AskKey, Await, B, BadClc, BadStep, Cdc, ClcMessage, ClcStep, Close, Complete, Cut, Decline, Declined, Deliver, Done, Dropped, EndState, Entry, Established, Event, Fabric, Faulty, Fell, FellBack, Finish, Flow, Front, GroupEnded, Grow, Heal, Held, KeyPhase, Lacks, Landed, LinkId, Llc, LlcMessage, Lost, Move, NameUsed, NoLiveLink, NoMessage, NotCapable, Offer, Open, Opened, Peer, Placed, Post, Read, Ready, Reply, Report, Reset, SendAccept, SendConfirm, Setup, Side, Swallow, Test, Trim, Wait, WaitsAnswer, WaitsConfirm, WaitsProposal, Whole, Wrong, accept_post, act_of, act_posts, begins_delete, begins_drop, begins_test, clc_posts, clc_step, clc_told, completed_told, confirm_post, confirms_on, connection_posts, dead_at, deliver_told, draft, end_state, expects, fabric, fewest, first_contact_step, first_link, flow_of, front, front_posts, front_told, group_of, group_on, grow_post, grow_told, head, is_adding, is_asked, is_asking_or_waiting, is_dead, is_deleting, is_dropping, is_first_contact, is_nil, is_on, is_opened, is_raw, key_step, lacks, lands_told, leaves, link_or_none, llc_step, lowest_live, named_link, no_link, on_accept, open_slots, open_told, other, peer, peer_of, post_at, proposal_post, record_of, reply_of, report_posts, report_told, reports, standing_at, stands, step_posts, step_told, swallowed, table_of, test_post, trim_post, trim_told, trimmed, verdict, with_flow, with_peer}
+use Rattle.history_laws.specs.Words.{A, Abort, AskKey, Await, B, BadClc, BadStep, Cdc, ClcMessage, ClcStep, Close, Complete, Cut, Decline, Declined, Deliver, Done, Dropped, EndState, Entry, Established, Event, Fabric, Faulty, Fell, FellBack, Finish, Flow, Front, GroupEnded, Grow, Heal, Held, KeyPhase, Lacks, Landed, LinkId, Llc, LlcMessage, Lost, Move, NameUsed, NoLiveLink, NoMessage, NotCapable, Offer, Open, Opened, Peer, Placed, Post, Read, Ready, Reply, Report, Reset, SendAccept, SendConfirm, Setup, Side, Swallow, Test, Trim, Wait, WaitsAnswer, WaitsConfirm, WaitsProposal, Whole, Wrong, accept_post, act_of, act_posts, begins_delete, begins_drop, begins_test, clc_posts, clc_step, clc_told, completed_told, confirm_post, confirms_on, connection_posts, dead_at, deliver_told, draft, end_state, expects, fabric, fewest, first_contact_step, first_link, flow_of, front, front_posts, front_told, group_of, group_on, grow_post, grow_told, head, is_adding, is_asked, is_asking_or_waiting, is_dead, is_deleting, is_dropping, is_first_contact, is_nil, is_on, is_opened, is_raw, key_step, lacks, lands_told, leaves, link_or_none, llc_step, lowest_live, named_link, no_link, on_accept, open_slots, open_told, other, peer, peer_of, post_at, proposal_post, record_of, reply_of, report_posts, report_told, reports, standing_at, stands, step_posts, step_told, swallowed, table_of, test_post, trim_post, trim_told, trimmed, with_flow, with_peer}
 use Rattle.history_laws.proofs.Basics.{either-side, none-is, same-self}
-use Rattle.history_laws.specs.Made.{IsMadeAny}
+use Rattle.history_laws.specs.Made.{IsMade}
 use Rattle.link_laws.specs.Linked.{Under}
 use Rattle.link_laws.proofs.UnderWay.{HasNoLlc, IsLanding, Wired, alive-is, any-goes, entry_of, first_ask, gone-here, key_ask, key_rmb, landed-under, landing-is, left_after, living-alive, no-llc-connections, no-llc-kind, no-llc-one, one-alone, own-message, wired-after, wired-changed, wired-landed, wired-swallow}
-use Rattle.link_laws.specs.KeyFlows.{HasKeys, is_key_of, key_fits, key_kind}
+use Rattle.link_laws.specs.KeyFlows.{HasKeyFlow, is_key_of, key_fits, key_kind}
 use Rattle.link_laws.specs.UnderWay.{AreCarriedOf, HasFlows, HasOneOf, kind_in, kind_of, living}
-use Rattle.link_laws.specs.Owed.{IsTaken, Owed}
+use Rattle.link_laws.specs.Owed.{IsTaken, OwedByHandshake}
 use Rattle.link_laws.proofs.Requests.KeyPosts.{fits-open, key-like, keys-loss-one}
 use Rattle.link_laws.proofs.Requests.KeyTaken.{LandsKey, beside-loss, lands-key, left_of}
 use Rattle.link_laws.proofs.Requests.KeyLandings.{keys-loss-fits, keys-loss-free, message_of, own-fits}
@@ -130,7 +131,7 @@ trim-beside : (setup : Setup) (payload : List ℕ) (x : Side) (past : List Entry
 trim-beside setup payload A past = refl
 trim-beside setup payload B past = refl
 
-module _ (setup : Setup) (payload : List ℕ) (past : List Entry) (flows : HasFlows past) (owed : Owed setup payload past flows.under) (x : Side) (all : HasKeys x past) where
+module _ (setup : Setup) (payload : List ℕ) (past : List Entry) (flows : HasFlows past) (owed : OwedByHandshake setup payload past flows.under) (x : Side) (all : HasKeyFlow x past) where
   carried : AreCarriedOf (key_kind x) past all.under
   carried = all.carried
 
@@ -447,14 +448,14 @@ module _ (setup : Setup) (payload : List ℕ) (past : List Entry) (flows : HasFl
   drafts before (Test y slot) = tests y slot (reply_of before (told setup payload past (Test y slot)))
   drafts before (Trim y) = trims y
 
-  keys-go : (before : ℕ) (e : Entry) → IsMadeAny setup payload past before e → KeysGo x e past all.under
+  keys-go : (before : ℕ) (e : Entry) → IsMade setup payload past before e → KeysGo x e past all.under
   keys-go before e given =
       subst (λ r. KeysGo x (entry_of e.actor e.event r e.posts) past all.under) (sym given.reply)
       (subst (λ ps. KeysGo x (entry_of e.actor e.event (reply_of before (told setup payload past e.event)) ps) past all.under) (sym given.posts)
       (drafts before e.event e.actor (connection_posts setup payload (draft setup payload past before e.event) past) (no-llc-connections setup payload (draft setup payload past before e.event) past)))
 
   -- the step over all events
-  pub keys-go-on : (before : ℕ) (e : Entry) → IsMadeAny setup payload past before e → HasKeys x (e ∷ past)
+  pub keys-go-on : (before : ℕ) (e : Entry) → IsMade setup payload past before e → HasKeyFlow x (e ∷ past)
   keys-go-on before e given =
       let k = keys-go before e given in
       let g = any-goes setup payload past flows owed before e given in
@@ -473,5 +474,5 @@ module _ (setup : Setup) (payload : List ℕ) (past : List Entry) (flows : HasFl
           by false is = is
 
 -- at first
-pub keys-at-first : (x : Side) → HasKeys x []
+pub keys-at-first : (x : Side) → HasKeyFlow x []
 keys-at-first x = record { under = None; carried = record { alive = λ w e. absurd (none-is w e); carried = λ l y alive. refl }; fits = λ w e. absurd (none-is w e) }

@@ -10,7 +10,7 @@ use Rattle.history_laws.proofs.Basics.{none-is, some-is}
 use Rattle.link_laws.specs.Linked.{Under, is_link_message}
 use Rattle.link_laws.proofs.UnderWay.{IsNotGone, gone-there, left_after}
 use Rattle.link_laws.specs.UnderWay.{HasFlows, HasOneOf, kind_in, kind_of}
-use Rattle.link_laws.specs.KeyFlows.{HasKeys, is_key_of, key_fits, key_kind}
+use Rattle.link_laws.specs.KeyFlows.{HasKeyFlow, is_key_of, key_fits, key_kind}
 use Rattle.link_laws.proofs.Requests.KeyPosts.{IsLinkStep, again-is, any-one, flow-other, key-like, keys-loss, keys-loss-one, link-step, link-step-key, link-step-none}
 use Rattle.link_laws.proofs.Requests.KeyLandings.{keys-loss-fits, keys-loss-free}
 
@@ -28,7 +28,7 @@ pub link-not-gone : (step : FlowStep) → IsLinkStep step → IsNotGone step
 link-not-gone (Gone report) s = s
 link-not-gone step s = tt
 
-module _ (setup : Setup) (past : List Entry) (flows : HasFlows past) (x : Side) (all : HasKeys x past) (l : LinkId) where
+module _ (setup : Setup) (past : List Entry) (flows : HasFlows past) (x : Side) (all : HasKeyFlow x past) (l : LinkId) where
   -- nothing of the key flow comes or goes, and the flow stays
   plain : (z : Side) (m : LlcMessage) (step : FlowStep) → HasOneOf (key_kind x) (step_posts setup z l m past step) → kind_in (key_kind x) (step_posts setup z l m past step) ≡ None
       → (Flow.key (Peer.flow (peer x (does z l m step (fabric past)))) ≡ (flow_of x past).key) × (Flow.on (Peer.flow (peer x (does z l m step (fabric past)))) ≡ (flow_of x past).on) → LandsKey setup x z past l m step all.under
@@ -75,7 +75,7 @@ beside-loss setup x k mine p before past = keys-loss x (other x) k mine p setup 
 
 module _ (setup : Setup) (past : List Entry) (flows : HasFlows past) (l : LinkId) where
   -- a message of x lands at the other side
-  module _ (x : Side) (all : HasKeys x past) where
+  module _ (x : Side) (all : HasKeyFlow x past) where
     plain-other : (m : LlcMessage) (step : FlowStep) → HasOneOf (key_kind x) (step_posts setup (other x) l m past step) → kind_in (key_kind x) (step_posts setup (other x) l m past step) ≡ None → LandsKey setup x (other x) past l m step all.under
     plain-other m step one none = plain setup past flows x all l (other x) m step one none (flow-beside x l m step (fabric past))
 
@@ -108,7 +108,7 @@ module _ (setup : Setup) (past : List Entry) (flows : HasFlows past) (l : LinkId
     key-fits-now : (m : LlcMessage) → all.under ≡ Some (record { from = x; link = l; message = m }) → key_fits l.slot m (flow_of x past) ≡ true
     key-fits-now m e = all.fits (record { from = x; link = l; message = m }) e
 
-  at-other : (x : Side) (all : HasKeys x past) (m : LlcMessage) → (is_key_of x x m ≡ true → HasKeys.under all ≡ Some (record { from = x; link = l; message = m })) → LandsKey setup x (other x) past l m (llc_step (other x) l m past (fabric past)) (left_of x x l m (HasKeys.under all))
+  at-other : (x : Side) (all : HasKeyFlow x past) (m : LlcMessage) → (is_key_of x x m ≡ true → HasKeyFlow.under all ≡ Some (record { from = x; link = l; message = m })) → LandsKey setup x (other x) past l m (llc_step (other x) l m past (fabric past)) (left_of x x l m (HasKeyFlow.under all))
   at-other x all (ConfirmLink reply mac gid qp k user most) h = link-other x all (ConfirmLink reply mac gid qp k user most) refl
   at-other x all (AddLink reply rejected reason mac gid qp k mtu psn) h = link-other x all (AddLink reply rejected reason mac gid qp k mtu psn) refl
   at-other x all (AddKeys reply k count keys) h = link-other x all (AddKeys reply k count keys) refl
@@ -134,7 +134,7 @@ module _ (setup : Setup) (past : List Entry) (flows : HasFlows past) (l : LinkId
   at-other B all (DeleteRkey true negative count mask keys) h = delete-reply-other B all negative count mask keys (flow_of A past).key
 
   -- a message of the other side lands at x
-  module _ (x : Side) (all : HasKeys x past) where
+  module _ (x : Side) (all : HasKeyFlow x past) where
     key-answer : (retry negative : Bool) (others : ℕ) (tokens : List KeyToken) (whole : Bool) (phase : KeyPhase) → LandsKey setup x x past l (ConfirmRkey true retry negative others tokens) (on_confirm_rkey_reply retry whole phase) None
     key-answer retry negative others tokens whole Asked = by (not retry && whole)
       where
@@ -152,7 +152,7 @@ module _ (setup : Setup) (past : List Entry) (flows : HasFlows past) (l : LinkId
     delete-answer negative count mask keys RetryWaits = taken setup past flows x all l x (DeleteRkey true negative count mask keys) Skip tt refl
 
   -- the peer says that a link is gone
-  gone-own : (x : Side) (all : HasKeys x past) (every orderly : Bool) (k reason : ℕ) (b : Bool) → (is_standing (phase_at k (table_of x past)) && not (is_standing (phase_at k (table_of (other x) past)))) ≡ b → LandsKey setup x x past l (DeleteLink false every orderly k reason) (Gone b) (HasKeys.under all)
+  gone-own : (x : Side) (all : HasKeyFlow x past) (every orderly : Bool) (k reason : ℕ) (b : Bool) → (is_standing (phase_at k (table_of x past)) && not (is_standing (phase_at k (table_of (other x) past)))) ≡ b → LandsKey setup x x past l (DeleteLink false every orderly k reason) (Gone b) (HasKeyFlow.under all)
   gone-own A all every orderly k reason false e = plain setup past flows A all l A (DeleteLink false every orderly k reason) (Gone false) (inl refl, tt) refl (refl, refl)
   gone-own B all every orderly k reason false e = plain setup past flows B all l B (DeleteLink false every orderly k reason) (Gone false) (inl refl, tt) refl (refl, refl)
   gone-own A all every orderly k reason true e = record {
@@ -176,7 +176,7 @@ module _ (setup : Setup) (past : List Entry) (flows : HasFlows past) (l : LinkId
       not-there true true e = absurd (true≢false (sym e))
       not-there false true e = absurd (true≢false (sym e))
 
-  at-own : (x : Side) (all : HasKeys x past) (m : LlcMessage) → LandsKey setup x x past l m (llc_step x l m past (fabric past)) (left_of x (other x) l m (HasKeys.under all))
+  at-own : (x : Side) (all : HasKeyFlow x past) (m : LlcMessage) → LandsKey setup x x past l m (llc_step x l m past (fabric past)) (left_of x (other x) l m (HasKeyFlow.under all))
   at-own x all (ConfirmLink reply mac gid qp k user most) = link-own setup past flows x all l (ConfirmLink reply mac gid qp k user most) refl
   at-own x all (AddLink reply rejected reason mac gid qp k mtu psn) = link-own setup past flows x all l (AddLink reply rejected reason mac gid qp k mtu psn) refl
   at-own x all (AddKeys reply k count keys) = link-own setup past flows x all l (AddKeys reply k count keys) refl
@@ -191,7 +191,7 @@ module _ (setup : Setup) (past : List Entry) (flows : HasFlows past) (l : LinkId
   at-own A all (ConfirmRkey false retry negative others tokens) = plain setup past flows A all l A (ConfirmRkey false retry negative others tokens) Learn (inr refl, tt) refl (refl, refl)
   at-own B all (ConfirmRkey false retry negative others tokens) = by (is_adding (flow_of B past).link)
     where
-      by : (b : Bool) → LandsKey setup B B past l (ConfirmRkey false retry negative others tokens) (if b then ReplyRetry else Learn) (HasKeys.under all)
+      by : (b : Bool) → LandsKey setup B B past l (ConfirmRkey false retry negative others tokens) (if b then ReplyRetry else Learn) (HasKeyFlow.under all)
       by true = plain setup past flows B all l B (ConfirmRkey false retry negative others tokens) ReplyRetry (inr refl, tt) refl (refl, refl)
       by false = plain setup past flows B all l B (ConfirmRkey false retry negative others tokens) Learn (inr refl, tt) refl (refl, refl)
   at-own A all (ConfirmRkey true retry negative others tokens) = key-answer A all retry negative others tokens _ (flow_of A past).key
@@ -202,7 +202,7 @@ module _ (setup : Setup) (past : List Entry) (flows : HasFlows past) (l : LinkId
   at-own B all (DeleteRkey true negative count mask keys) = delete-answer B all negative count mask keys (flow_of B past).key
 
   -- a message of side `dir` lands at the other
-  pub lands-key : (x dir : Side) (all : HasKeys x past) (m : LlcMessage) → (is_key_of x dir m ≡ true → HasKeys.under all ≡ Some (record { from = dir; link = l; message = m })) → LandsKey setup x (other dir) past l m (llc_step (other dir) l m past (fabric past)) (left_of x dir l m (HasKeys.under all))
+  pub lands-key : (x dir : Side) (all : HasKeyFlow x past) (m : LlcMessage) → (is_key_of x dir m ≡ true → HasKeyFlow.under all ≡ Some (record { from = dir; link = l; message = m })) → LandsKey setup x (other dir) past l m (llc_step (other dir) l m past (fabric past)) (left_of x dir l m (HasKeyFlow.under all))
   lands-key A A all m h = at-other A all m h
   lands-key B B all m h = at-other B all m h
   lands-key A B all m h = at-own A all m

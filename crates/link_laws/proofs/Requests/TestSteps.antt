@@ -15,13 +15,13 @@ use Rattle.clc_wire.specs.declared.message.ClcMessage.TheVariants.{Accept as Acc
 use Rattle.pipe_model.specs.Replies.{told}
 use Rattle.history_laws.specs.Words.{A, Abort, AskKey, Await, B, BadClc, BadStep, Cdc, ClcMessage, ClcStep, Close, Complete, Cut, Decline, Declined, Deliver, Done, Dropped, Entry, Established, Event, Fabric, Faulty, Fell, FellBack, Finish, Flow, Front, GroupEnded, Grow, Heal, Held, Landed, LinkId, Llc, LlcMessage, Lost, Move, NameUsed, NoLiveLink, NoMessage, NotCapable, Open, Opened, Peer, Placed, Post, Read, Ready, Reply, Report, Reset, SendAccept, SendConfirm, Setup, Side, Swallow, Test, Trim, Wait, Whole, Wrong, accept_post, act_of, act_posts, begins_delete, begins_drop, begins_test, clc_posts, clc_step, clc_told, completed_told, confirm_post, confirms_on, connection_posts, dead_at, deliver_told, draft, end_state, expects, fabric, fewest, first_link, flow_of, front, front_posts, front_told, group_on, grow_post, grow_told, has, head, is_dead, is_dropping, is_live, is_on, is_opened, is_raw, is_standing, lands_told, leaves, link_or_none, llc_step, lowest_live, named_link, no_link, open_slots, open_told, other, peer, peer_of, phase_at, post_at, proposal_post, record_of, reply_of, report_posts, report_told, reports, standing_at, stands, step_posts, step_told, swallowed, table_of, test_post, test_told, trim_post, with_flow, with_peer}
 use Rattle.history_laws.proofs.Basics.{and-both, and-true, either-side, live-is, none-is, or-true, some-is}
-use Rattle.history_laws.specs.Made.{IsMadeAny}
+use Rattle.history_laws.specs.Made.{IsMade}
 use Rattle.link_laws.specs.Linked.{Under}
 use Rattle.link_laws.proofs.UnderWay.{HasNoLlc, IsLanding, Wired, alive-is, any-goes, entry_of, first_ask, key_ask, key_rmb, landed-under, landing-is, left_after, living-alive, no-llc-connections, no-llc-kind, no-llc-one, one-alone, own-message, wired-after, wired-changed, wired-landed, wired-swallow}
 use Rattle.link_laws.specs.TestFlows.{HasTest, is_test_of, test_fits, test_kind}
 use Rattle.link_laws.specs.UnderWay.{AreCarriedOf, HasFlows, HasOneOf, kind_in, kind_of, living}
 use Rattle.link_laws.proofs.Requests.TestTaken.{LandsTest, lands-test, left_of_test, some_if, test-loss, test-loss-fits}
-use Rattle.link_laws.specs.Owed.{IsTaken, Owed}
+use Rattle.link_laws.specs.Owed.{IsTaken, OwedByHandshake}
 use Rattle.link_laws.proofs.Requests.KeySteps.{no-loss, peer-beside, peer-with}
 use Rattle.link_laws.proofs.Requests.KeyLandings.{message_of}
 use Rattle.link_laws.proofs.Sound.{slot-of}
@@ -61,7 +61,7 @@ test-beside : (x : Side) (n slot : ℕ) (past : List Entry) → kind_in (test_ki
 test-beside A n slot past = refl
 test-beside B n slot past = refl
 
-module _ (setup : Setup) (payload : List ℕ) (past : List Entry) (flows : HasFlows past) (owed : Owed setup payload past flows.under) (x : Side) (n : ℕ) (all : HasTest x n past) where
+module _ (setup : Setup) (payload : List ℕ) (past : List Entry) (flows : HasFlows past) (owed : OwedByHandshake setup payload past flows.under) (x : Side) (n : ℕ) (all : HasTest x n past) where
   carried : AreCarriedOf (test_kind x n) past all.under
   carried = all.carried
 
@@ -366,14 +366,14 @@ module _ (setup : Setup) (payload : List ℕ) (past : List Entry) (flows : HasFl
   drafts before (Test y slot) = tests y slot
   drafts before (Trim y) = trims y (reply_of before (told setup payload past (Trim y)))
 
-  test-goes : (before : ℕ) (e : Entry) → IsMadeAny setup payload past before e → TestGo x n e past all.under
+  test-goes : (before : ℕ) (e : Entry) → IsMade setup payload past before e → TestGo x n e past all.under
   test-goes before e given =
       subst (λ r. TestGo x n (entry_of e.actor e.event r e.posts) past all.under) (sym given.reply)
       (subst (λ ps. TestGo x n (entry_of e.actor e.event (reply_of before (told setup payload past e.event)) ps) past all.under) (sym given.posts)
       (drafts before e.event e.actor (connection_posts setup payload (draft setup payload past before e.event) past) (no-llc-connections setup payload (draft setup payload past before e.event) past)))
 
   -- the step over all events
-  pub test-goes-on : (before : ℕ) (e : Entry) → IsMadeAny setup payload past before e → HasTest x n (e ∷ past)
+  pub test-goes-on : (before : ℕ) (e : Entry) → IsMade setup payload past before e → HasTest x n (e ∷ past)
   test-goes-on before e given =
       let k = test-goes before e given in
       let g = any-goes setup payload past flows owed before e given in

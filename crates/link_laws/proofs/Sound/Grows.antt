@@ -4,11 +4,9 @@ use Rattle.pipe_model.specs.declared.reply.Reply.TheVariants.{Idle, Sent}
 use Rattle.pipe_model.specs.declared.reply.SentKind.TheVariants.{AddLink as AddLinkSent}
 use Rattle.std.specs.Prelude.{Option}
 use Rattle.pipe_model.specs.declared.reply.Hold.TheVariants.{AddLink as AddLinkHold, ConfirmRkey as ConfirmRkeyHold, DeleteRkey as DeleteRkeyHold, FirstContact as FirstContactHold}
-use Rattle.pipe_model.specs.Replies.{grow_to}
 use Rattle.pipe_model.specs.Flows.{LinkSent}
 use Rattle.pipe_model.specs.Fabric.{after}
-use Rattle.smc_num.specs.Names.{up_to}
-use Rattle.history_laws.specs.Words.{Abandoned, AddSeen, AddSent, B, Entry, FirstContact, Grow, Held, KeysSent, LinkFlow, NoFlow, Post, Setup, fabric, flow_of, group_of, grow_post, grow_told, head, is_adding, is_asked, is_deleting, is_first_contact, is_standing, link_or_none, lowest_live, open_slots, path_up, peer, standing_at, table_of, with_peer}
+use Rattle.history_laws.specs.Words.{Abandoned, AddSeen, AddSent, B, Entry, FirstContact, Grow, Held, KeysSent, LinkFlow, NoFlow, Post, Setup, fabric, flow_of, group_of, grow_post, grow_to, grow_told, head, is_adding, is_asked, is_deleting, is_first_contact, is_standing, link_or_none, lowest_live, open_slots, path_up, peer, standing_at, table_of, up_to, with_peer}
 use Rattle.link_laws.specs.Linked.{AreLinked, IsOwn, Under, phases, then_posted}
 use Rattle.link_laws.proofs.Sound.Taken.{lowest-lives, slot-of}
 use Rattle.link_laws.proofs.Sound.OneSide.{going-of}

@@ -6,10 +6,10 @@ use Rattle.std.specs.Prelude.{slice_index_or}
 use Rattle.pipe_model.specs.Replies.{told}
 use Rattle.pipe_model.specs.declared.event.Event.TheVariants.{Clc, Raw, Write}
 use Rattle.history_laws.specs.Words.{Abort, Await, Close, Complete, Cut, Declined, Deliver, Entry, Event, Finish, Grow, Heal, Move, NameUsed, NotCapable, Open, Opened, Read, Report, Setup, Swallow, Test, Trim, connection_posts, draft, is_opened, is_raw, open_told, proposal_post, reply_of}
-use Rattle.history_laws.specs.Made.{IsMadeAny}
+use Rattle.history_laws.specs.Made.{IsMade}
 use Rattle.history_laws.proofs.Basics.{none-is}
 use Rattle.link_laws.specs.UnderWay.{HasFlows}
-use Rattle.link_laws.specs.Owed.{Owed}
+use Rattle.link_laws.specs.Owed.{OwedByHandshake}
 use Rattle.link_laws.proofs.UnderWay.Entries.{Draft, deliver, entry_of, quiet, swallow}
 use Rattle.link_laws.proofs.UnderWay.Handshakes.{takes-clc}
 use Rattle.link_laws.proofs.UnderWay.Asks.{grows, reported, tests, trims}
@@ -17,7 +17,7 @@ use Rattle.link_laws.proofs.UnderWay.Step.{GoesOn, goes-on}
 use Rattle.link_laws.proofs.UnderWay.PostKinds.{no-llc-connections}
 use Rattle.link_laws.proofs.Sound.{at-first}
 
-module _ (setup : Setup) (payload : List ℕ) (past : List Entry) (all : HasFlows past) (owed : Owed setup payload past all.under) where
+module _ (setup : Setup) (payload : List ℕ) (past : List Entry) (all : HasFlows past) (owed : OwedByHandshake setup payload past all.under) where
   -- an event that changes no link, posts nothing and takes nothing from a wire, whatever it is told
   opens : (s : ℕ) → Draft past all.under (Open s) (open_told setup s past) (asked setup payload past (Open s) (open_told setup s past))
   opens s = by (is_opened s past || is_raw s past) (slice_index_or setup.capable 0 false) (slice_index_or setup.capable 1 false)
@@ -50,14 +50,14 @@ module _ (setup : Setup) (payload : List ℕ) (past : List Entry) (all : HasFlow
   drafts before (Trim x) = trims past all setup payload x
 
   -- any entry
-  pub any-goes : (before : ℕ) (e : Entry) → IsMadeAny setup payload past before e → GoesOn e past all.under
+  pub any-goes : (before : ℕ) (e : Entry) → IsMade setup payload past before e → GoesOn e past all.under
   any-goes before e given =
       subst (λ r. GoesOn (entry_of e.actor e.event r e.posts) past all.under) (sym given.reply)
       (subst (λ ps. GoesOn (entry_of e.actor e.event (reply_of before (told setup payload past e.event)) ps) past all.under) (sym given.posts)
       (drafts before e.event e.actor (connection_posts setup payload (draft setup payload past before e.event) past) (no-llc-connections setup payload (draft setup payload past before e.event) past)))
 
   -- the step over all events
-  abbrev pub flows-go-on : (before : ℕ) (e : Entry) → IsMadeAny setup payload past before e → HasFlows (e ∷ past)
+  abbrev pub flows-go-on : (before : ℕ) (e : Entry) → IsMade setup payload past before e → HasFlows (e ∷ past)
   flows-go-on before e given = goes-on e past all (any-goes before e given)
 
 -- at first

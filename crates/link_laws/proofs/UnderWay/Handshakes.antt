@@ -3,16 +3,16 @@ use Rattle.std.proofs.Common.{Bool, List, None, Some, [], ap, arith, eq-eqb, fal
 use Rattle.pipe_model.specs.declared.reply.Hold.TheVariants.{DeleteRkey as DeleteRkeyHold, FirstContact as FirstContactHold}
 use Rattle.pipe_model.specs.declared.reply.Lack.TheVariants.{Raw}
 use Rattle.std.specs.Prelude.{Option, unwrap_or}
-use Rattle.pipe_model.specs.Messages.{confirm_link}
 use Rattle.pipe_model.specs.Fabric.{asked_rmb}
 use Rattle.clc_wire.specs.declared.message.ClcMessage.TheVariants.{Accept as AcceptMessage, Confirm as ConfirmMessage, Decline as DeclineMessage, Proposal as ProposalMessage}
+use Rattle.pipe_model.specs.Handshake.{verdict}
 use Rattle.pipe_model.specs.declared.event.Event.TheVariants.{Clc as ClcEvent}
 use Rattle.pipe_model.specs.Lawful.{asked}
 use Rattle.pipe_model.specs.declared.reply.Reply.TheVariants.{Idle, Sent}
 use Rattle.pipe_model.specs.declared.reply.SentKind.TheVariants.{Accept as AcceptSent, Confirm as ConfirmSent, ConfirmRkey as KeySent, ConfirmLink as LinkSent}
-use Rattle.history_laws.specs.Words.{A, AskKey, B, BadClc, BadStep, ClcMessage, ClcStep, ConfirmRkey, Decline, Declined, EndState, Entry, Established, Faulty, Fell, FellBack, Front, Held, Lacks, LinkId, Llc, Lost, NoLiveLink, NoMessage, NoServerElement, NoSlot, NoSubnet, Post, Proposal, Ready, Reply, Reset, SendAccept, SendConfirm, Setup, Side, Wait, WaitsAnswer, WaitsConfirm, WaitsProposal, Whole, Wrong, accept_post, begins_group, clc_posts, clc_step, clc_told, confirm_post, confirms_on, end_state, expects, fabric, fewest, first_link, front, front_posts, front_told, group_of, group_on, groups_begun, is_deleting, is_raw, key_step, keys_of, lacks, link_or_none, lowest_live, makes, named_link, next_free, no_link, on_proposal, other, pair_on, peer, peer_of, ready_posts, rkey_post, stands, step_told, table_of, verdict, with_peer}
+use Rattle.history_laws.specs.Words.{A, AskKey, B, BadClc, BadStep, ClcMessage, ClcStep, ConfirmRkey, Decline, Declined, EndState, Entry, Established, Faulty, Fell, FellBack, Front, Held, Lacks, LinkId, Llc, Lost, NoLiveLink, NoMessage, NoServerElement, NoSlot, NoSubnet, Post, Proposal, Ready, Reply, Reset, SendAccept, SendConfirm, Setup, Side, Wait, WaitsAnswer, WaitsConfirm, WaitsProposal, Whole, Wrong, accept_post, begins_group, clc_posts, clc_step, clc_told, confirm_link, confirm_post, confirms_on, end_state, expects, fabric, fewest, first_link, front, front_posts, front_told, group_of, group_on, groups_begun, is_deleting, is_raw, key_step, keys_of, lacks, link_or_none, lowest_live, makes, named_link, next_free, no_link, on_proposal, other, pair_on, peer, peer_of, ready_posts, rkey_post, stands, step_told, table_of, with_peer}
 use Rattle.link_laws.specs.UnderWay.{AreCarriedOf, HasFlows, link_kind}
-use Rattle.link_laws.specs.Owed.{CanAsk, CanAskKey, CanJoin, IsTaken, Owed}
+use Rattle.link_laws.specs.Owed.{CanAsk, CanAskKey, CanJoin, IsTaken, OwedByHandshake}
 use Rattle.link_laws.specs.Linked.{AreLinked, IsOwn, Under}
 use Rattle.link_laws.proofs.UnderWay.WireStep.{Grows, alive-is, stands-made}
 use Rattle.link_laws.proofs.UnderWay.Growing.{grows-made, grows-on, grows-peer, grows-same, known-made}
@@ -76,7 +76,7 @@ key_rmb (Llc from link (ConfirmRkey reply retry negative others tokens)) = asked
 key_rmb post = 0
 
 -- links, flows and wires after a CLC message is taken
-module _ (setup : Setup) (payload : List ℕ) (past : List Entry) (all : HasFlows past) (owed : Owed setup payload past all.under) where
+module _ (setup : Setup) (payload : List ℕ) (past : List Entry) (all : HasFlows past) (owed : OwedByHandshake setup payload past all.under) where
   carried : AreCarriedOf link_kind past all.under
   carried = all.carried
 

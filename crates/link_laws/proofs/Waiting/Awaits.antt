@@ -19,7 +19,7 @@ use Rattle.link_laws.proofs.Fabric.{fabric-taken}
 use Rattle.link_laws.proofs.Waiting.ComingUp.{by-kind}
 use Rattle.link_laws.specs.Joined.{IsContacted}
 use Rattle.link_laws.proofs.Contact.{Begins, IsBeginning, IsKept, IsLaterOffer, IsMoved, IsSame, Joins, Kind, Moves, Plain, Readies, joined-next, offered-row, state-parts}
-use Rattle.link_laws.specs.Offered.{AreOffered, IsProposed}
+use Rattle.link_laws.specs.Offered.{AreOffered, HasProposal}
 
 -- a socket whose streams hold something of first contact is in a row of it
 pub in-row : (past : List Entry) (under : Option Under) (s : ℕ) → Contact past under → (AreLater s past → ⊥) → ((o : Offered) × IsOfferedFirst s o past) ⊎ ((o : Offered) × ((p : Offered) × IsJoinedFirst s o p past under))
@@ -317,7 +317,7 @@ module _ (setup : Setup) (payload : List ℕ) (e : Entry) (past : List Entry) (m
           kept : IsKept s past under e
           kept = k.kept
 
-          proposed : IsProposed s past
+          proposed : HasProposal s past
           proposed = offers.proposed s kept.not_raw k.waits
 
   -- the step

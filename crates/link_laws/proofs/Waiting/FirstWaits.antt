@@ -4,18 +4,18 @@ use Rattle.std.proofs.Common.{Bool, List, [], ap, false, if◌then◌else◌, in
 use Rattle.pipe_model.specs.Flows.{LinkSent}
 use Rattle.std.specs.Prelude.{None, Option, Some, option_and_then}
 use Rattle.history_laws.specs.Words.{A, Abandoned, Act, AddKeys, AddLink, AddSeen, AddSent, AskLink, B, ConfirmLink, ConfirmRkey, DeleteLink, DeleteRkey, Entry, FirstContact, Flow, FlowStep, KeysSent, LinkFlow, LinkId, LinkView, LlcMessage, NoFlow, Offered, Over, Reject, ReplyAdd, SendKeys, Setup, Side, Skip, TestLink, WaitsLink, act_in, confirmed_by, end_state, fabric, flow_of, flow_step, group_of, is_first_contact, is_first_on, is_whole, llc_step, named_slot, offered, on_add_keys, on_add_keys_reply, on_add_link, on_add_link_reject, on_add_link_reply, on_confirm_link, on_confirm_link_reply, on_new_link, other, peer, same_link, stands, table_of, view_of}
-use Rattle.history_laws.specs.Made.{IsMadeAll, IsMadeAny}
+use Rattle.history_laws.specs.Made.{IsMadeAll, IsMade}
 use Rattle.history_laws.proofs.Basics.{and-both, link-is, none-is}
 use Rattle.link_laws.specs.Linked.{AreLinked, StandsAtBoth, Under, is_link_message}
 use Rattle.link_laws.specs.Joined.{HasContact}
 use Rattle.link_laws.specs.Awaited.{AllWith, AreAwaited, AreOnKnown, first_up}
 use Rattle.link_laws.specs.UnderWay.{HasFlows, link_kind}
 use Rattle.link_laws.proofs.Waiting.Landed.{HasLanded, has-landed, landed-under}
-use Rattle.link_laws.proofs.UnderWay.{both-stand}
+use Rattle.link_laws.proofs.UnderWay.{GoesOn, Grows, any-goes, both-stand}
 use Rattle.link_laws.proofs.Contact.{IsHarmless, harmless, kind-given, not-up}
 use Rattle.link_laws.proofs.Sound.{has-group}
 use Rattle.link_laws.specs.Contact.{IsJoinedFirst, IsOfferedFirst}
-use Rattle.link_laws.proofs.Joined.{has-contact}
+use Rattle.link_laws.proofs.Joined.{has-contact, pays}
 use Rattle.link_laws.proofs.Waiting.Awaits.{awaited-after, awaited-first}
 
 -- what a step that takes a message of the link flow says of first contact: only there a first link goes live
@@ -114,7 +114,7 @@ step-first x f (TestLink reply bytes) view landed whole is = absurd (true≢fals
 step-first x f (DeleteRkey reply negative count mask keys) view landed whole is = absurd (true≢false (sym is))
 
 -- the end for which a first link goes live at a side waits for it
-pub first-waits : (setup : Setup) (payload : List ℕ) (past : List Entry) (before : ℕ) (e : Entry) → IsMadeAny setup payload past before e → (was : HasContact past) → AreAwaited past (HasFlows.under was.flows) → (x : Side) (s : ℕ) (link : LinkId) → first_up x s e past ≡ Some link → end_state x s past ≡ WaitsLink
+pub first-waits : (setup : Setup) (payload : List ℕ) (past : List Entry) (before : ℕ) (e : Entry) → IsMade setup payload past before e → (was : HasContact past) → AreAwaited past (HasFlows.under was.flows) → (x : Side) (s : ℕ) (link : LinkId) → first_up x s e past ≡ Some link → end_state x s past ≡ WaitsLink
 first-waits setup payload past before e made was wait x s link up = by (act_in x e past) refl up
   where
     flows : HasFlows past
@@ -180,6 +180,13 @@ first-waits setup payload past before e made was wait x s link up = by (act_in x
         step (Live reply true) d k = offer (offered B s past) refl (named (is_first_on act.link (offered B s past)) refl k) reply d
         step v d k = absurd (none-is link k)
 
+-- what an entry makes stand is new
+pub grows-of : (setup : Setup) (payload : List ℕ) (e : Entry) (past : List Entry) → IsMadeAll setup payload (e ∷ past) → Grows (fabric past) (fabric (e ∷ past))
+grows-of setup payload e past m = by (has-contact setup payload past m.1) m.0.1
+  where
+    by : HasContact past → IsMade setup payload past m.0.0 e → Grows (fabric past) (fabric (e ∷ past))
+    by c g = let it : GoesOn e past (HasFlows.under c.flows) = any-goes setup payload past c.flows (pays setup payload past c) m.0.0 e (record { reply = g.reply; posts = g.posts }) in it.grows
+
 -- and its ends wait
 pub all-awaited : (setup : Setup) (payload : List ℕ) (past : List Entry) (m : IsMadeAll setup payload past) → AreAwaited past (HasFlows.under (HasContact.flows (has-contact setup payload past m)))
 all-awaited setup payload [] m = awaited-first _
@@ -188,7 +195,7 @@ all-awaited setup payload (e ∷ past) m = step (has-contact setup payload past 
     step : (was : HasContact past) (now : HasContact (e ∷ past)) → AreAwaited past (HasFlows.under was.flows) → AreAwaited (e ∷ past) (HasFlows.under now.flows)
     step was now wait =
         let f : HasFlows past = was.flows in
-        let g : IsMadeAny setup payload past m.0.0 e = m.0.1 in
+        let g : IsMade setup payload past m.0.0 e = m.0.1 in
         awaited-after setup payload e past m f.under f.linked was.contacted wait (kind-given setup payload past f.under m.0.0 e (record { reply = g.reply; posts = g.posts }) f.linked f.carried was.contacted) (HasFlows.under now.flows) now.contacted
 
 -- what is owed with each entry

@@ -6,7 +6,7 @@ use Rattle.pipe_model.specs.Wires.{landing}
 use Rattle.pipe_model.specs.Replies.{told}
 use Rattle.pipe_model.specs.declared.post.Post.TheVariants.{Clc, Write}
 use Rattle.history_laws.specs.Words.{Act, Cdc, Deliver, Dropped, Entry, LinkId, Llc, Placed, Post, PostRef, Setup, Side, act_in, act_of, deliver_told, fabric, is_dead, is_on, lands_told, latest, llc_step, other, post_at, record_of, reply_of, unlanded}
-use Rattle.history_laws.specs.Made.{IsMadeAny}
+use Rattle.history_laws.specs.Made.{IsMade}
 use Rattle.history_laws.proofs.Basics.{none-is, some-is}
 use Rattle.link_laws.proofs.Fabric.{act-lands}
 use Rattle.link_laws.proofs.UnderWay.{IsLanding, landed-is, landing-is, own-message}
@@ -24,7 +24,7 @@ pub record HasLanded (x : Side) (past : List Entry) (act : Act) : Type 0 where
   pub front : unlanded act.link (other x) past ≡ first ∷ rest
 
 -- what lands with an entry
-pub has-landed : (setup : Setup) (payload : List ℕ) (past : List Entry) (before : ℕ) (e : Entry) → IsMadeAny setup payload past before e → (x : Side) (act : Act) → act_in x e past ≡ Some act → HasLanded x past act
+pub has-landed : (setup : Setup) (payload : List ℕ) (past : List Entry) (before : ℕ) (e : Entry) → IsMade setup payload past before e → (x : Side) (act : Act) → act_in x e past ≡ Some act → HasLanded x past act
 has-landed setup payload past before e made x act is = let a = act-lands x e.event e.reply past act is in at a.0 a.1.0 a.1.1.0 a.1.1.1.0 a.1.1.1.1
   where
     at : (slot : ℕ) → e.event ≡ Deliver slot (other x) → (p : PostRef) → act_of x (post_at p past) past ≡ Some act → e.reply ≡ LandedReply p → HasLanded x past act

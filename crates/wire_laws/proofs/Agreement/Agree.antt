@@ -8,14 +8,14 @@ use Rattle.std.proofs.lemmas.Bool.{eqb-true}
 use Rattle.pipe_model.specs.Ends.{fresh}
 use Rattle.history_laws.specs.Words.{A, B, CdcMessage, Completes, Entry, Half, IsFeasible, LinkId, Offered, Placed, Setup, Side, Terms, completes_later, deeds, element_size, group_on, half, head, is_broken, is_on, is_up, items, next_number, no_link, numbered, offered, other, part, pipe_of, same_link, terms_of, uncompleted, unlanded}
 use Rattle.history_laws.specs.Wires.{EachPlaced, IsCarried, IsElse, cdc_under, cdcs, completing_now, landing_now, leaving, message}
-use Rattle.history_laws.specs.Made.{IsMadeAll, IsMadeAny}
+use Rattle.history_laws.specs.Made.{IsMadeAll, IsMade}
 use Rattle.history_laws.proofs.Wires.{CompletesHere, Elsewhere, Goes, LandsHere, Quietly, SwallowedHere, apart, group_by, own-none, placed-append, placed-drop, placed-filter, placed-take}
 use Rattle.history_laws.proofs.Basics.{by-bool, cdcs-append, is_no_message, lands-nothing, none-is, or-right, returns-nothing, some-is}
 use Rattle.history_laws.specs.Items.{EachItem}
 use Rattle.history_laws.proofs.Items.{below, below-messages, each-append, items-are, pipe-is-up}
 use Rattle.link_laws.specs.Lasting.{is_lost}
 use Rattle.lending_laws.specs.Ends.{OffersGoOn}
-use Rattle.wire_laws.specs.Agreement.{Agrees, AllOwed, CarriesNone, IsCarriedOn, IsCutOff, IsItsGroup, Owed}
+use Rattle.wire_laws.specs.Agreement.{Agrees, AllOwed, CarriesNone, IsCarriedOn, IsCutOff, IsItsGroup, OwedToAgreement}
 use Rattle.wire_laws.proofs.Agreement.Way.{carried-step, goes-on}
 use Rattle.wire_laws.proofs.Agreement.Feasible.{broken-more, cut-step, each-both, feasible-more, feasible-step}
 use Rattle.wire_laws.proofs.Agreement.Ends.{b-offered, idle-any, no-news-strange}
@@ -52,7 +52,7 @@ up-offered setup payload x s (e ∷ past) a u = by (comes_up x s e past) refl (�
     by (Some l) f again = let r = beside.answers x s l f in (r.0, beside.kept (other x) s r.0 r.1)
     by None f again = let r = again rest (ap (λ c. is_some c || is_up x s past) (sym f) ∙ u) in (r.0, beside.kept (other x) s r.0 r.1)
 
-module _ (setup : Setup) (payload : List ℕ) (e : Entry) (past : List Entry) (before : ℕ) (made : IsMadeAny setup payload past before e) (owed : Owed setup payload past) (beside : OffersGoOn e past) (all : AllOwed setup payload past) (agree : Agrees setup payload past) where
+module _ (setup : Setup) (payload : List ℕ) (e : Entry) (past : List Entry) (before : ℕ) (made : IsMade setup payload past before e) (owed : OwedToAgreement setup payload past) (beside : OffersGoOn e past) (all : AllOwed setup payload past) (agree : Agrees setup payload past) where
   abbrev T : Terms
   T = terms_of setup
 
@@ -126,7 +126,7 @@ module _ (setup : Setup) (payload : List ℕ) (e : Entry) (past : List Entry) (b
       by (Some r) h = subst (λ q. IsElse token q) (beside.kept y t r h) f
 
   -- the token of a new offer was given by none
-  new-token : (after : Owed setup payload (e ∷ past)) (y : Side) (s : ℕ) (o : Offered) → offered y s (e ∷ past) ≡ Some o → offered y s past ≡ None → (t : ℕ) → IsElse o.offer.token (offered y t past)
+  new-token : (after : OwedToAgreement setup payload (e ∷ past)) (y : Side) (s : ℕ) (o : Offered) → offered y s (e ∷ past) ≡ Some o → offered y s past ≡ None → (t : ℕ) → IsElse o.offer.token (offered y t past)
   new-token after y s o f n t = by (offered y t past) refl
     where
       by : (q : Option Offered) → offered y t past ≡ q → IsElse o.offer.token q
@@ -136,7 +136,7 @@ module _ (setup : Setup) (payload : List ℕ) (e : Entry) (past : List Entry) (b
           (λ j. j)
 
   -- an end that was offered just now has sent nothing
-  new-carried : (after : Owed setup payload (e ∷ past)) (x : Side) (s : ℕ) (o : Offered) → offered (other x) s (e ∷ past) ≡ Some o → offered (other x) s past ≡ None → (link : LinkId) →
+  new-carried : (after : OwedToAgreement setup payload (e ∷ past)) (x : Side) (s : ℕ) (o : Offered) → offered (other x) s (e ∷ past) ≡ Some o → offered (other x) s past ≡ None → (link : LinkId) →
       IsCarriedOn (element_size setup) link x o.offer.token (e ∷ past) (half x (pipe_of setup payload (group_on s (e ∷ past)) s (e ∷ past)))
   new-carried after x s o f n link =
       let k : Half = half x (pipe_of setup payload (group_on s (e ∷ past)) s (e ∷ past)) in
@@ -159,7 +159,7 @@ module _ (setup : Setup) (payload : List ℕ) (e : Entry) (past : List Entry) (b
       }
       by k sent c false = record { landing = c.landing; completing = c.completing }
 
-  carried-on : (after : Owed setup payload (e ∷ past)) (x : Side) (s : ℕ) (o : Offered) → offered (other x) s (e ∷ past) ≡ Some o → (link : LinkId) → is_lost x link (e ∷ past) ≡ false → (q : Option Offered) → offered (other x) s past ≡ q →
+  carried-on : (after : OwedToAgreement setup payload (e ∷ past)) (x : Side) (s : ℕ) (o : Offered) → offered (other x) s (e ∷ past) ≡ Some o → (link : LinkId) → is_lost x link (e ∷ past) ≡ false → (q : Option Offered) → offered (other x) s past ≡ q →
       IsCarriedOn (element_size setup) link x o.offer.token (e ∷ past) (half x (pipe_of setup payload (group_on s (e ∷ past)) s (e ∷ past)))
   carried-on after x s o f link kept None h = new-carried after x s o f h link
   carried-on after x s o f link kept (Some r) h =
@@ -169,7 +169,7 @@ module _ (setup : Setup) (payload : List ℕ) (e : Entry) (past : List Entry) (b
       (carried-step setup payload e past before made owed beside agree x s r h link (or-right _ (is_lost x link past) kept)))
 
   -- they go on agreeing
-  pub agree-step : Owed setup payload (e ∷ past) → Agrees setup payload (e ∷ past)
+  pub agree-step : OwedToAgreement setup payload (e ∷ past) → Agrees setup payload (e ∷ past)
   agree-step after = record {
     feasible = λ s group of. feasible-on s group of (offered B s past) refl;
     cut_off = λ x s group of b. cut-on x s group of (offered B s past) refl b;
@@ -185,7 +185,7 @@ at-first setup payload = record {
   strange = λ x token f link. record { landing = refl; completing = refl };
 }
 
-pub now-owed : (setup : Setup) (payload : List ℕ) (past : List Entry) → AllOwed setup payload past → Owed setup payload past
+pub now-owed : (setup : Setup) (payload : List ℕ) (past : List Entry) → AllOwed setup payload past → OwedToAgreement setup payload past
 now-owed setup payload [] a = a
 now-owed setup payload (e ∷ past) a = a.0
 

@@ -10,13 +10,13 @@ use Rattle.pipe_model.specs.Connections.{comes_up}
 use Rattle.pipe_model.specs.Pipe.{Lands}
 use Rattle.history_laws.specs.Words.{A, B, Completes, Entry, Half, Item, LinkId, Offered, Setup, Side, Terms, connection_posts, deeds, draft, element_size, fabric, group_on, half, head, is_offered, items, next_number, offered, other, part, pipe, posts_of, step, terms_of, to_complete}
 use Rattle.history_laws.proofs.Items.{AllStayOn, Counts, Sends, StaysOn, below, below-messages, counts-all, counts-step, items-are, pipe-is-up, same-items, sends-all, sends-on, sends-step, silent, stay-all-below, swallows-one}
-use Rattle.history_laws.specs.Made.{IsMadeAny}
+use Rattle.history_laws.specs.Made.{IsMade}
 use Rattle.history_laws.proofs.Posts.{all-control, connections-data, unseen-after}
 use Rattle.history_laws.proofs.Wires.{apart, news_on}
 use Rattle.history_laws.specs.Wires.{IsElse, message}
 use Rattle.history_laws.proofs.Basics.{completes-one, lands-one, none-is}
 use Rattle.lending_laws.specs.Ends.{OffersGoOn}
-use Rattle.wire_laws.specs.Agreement.{Owed}
+use Rattle.wire_laws.specs.Agreement.{OwedToAgreement}
 use Rattle.wire_laws.proofs.Agreement.Posts.{news-are, none-asked, nothing-strange, own-posted, under}
 use Rattle.wire_laws.proofs.Agreement.Step.{on_it}
 
@@ -33,7 +33,7 @@ idle-any t x is u =
     by B [] = refl
     by B (m ∷ ms) = refl
 
-module _ (setup : Setup) (payload : List ℕ) (e : Entry) (past : List Entry) (before : ℕ) (made : IsMadeAny setup payload past before e) (owed : Owed setup payload past) (beside : OffersGoOn e past) where
+module _ (setup : Setup) (payload : List ℕ) (e : Entry) (past : List Entry) (before : ℕ) (made : IsMade setup payload past before e) (owed : OwedToAgreement setup payload past) (beside : OffersGoOn e past) where
   abbrev T : Terms
   T = terms_of setup
 

@@ -9,10 +9,10 @@ use Rattle.history_laws.specs.Items.{EachItem}
 use Rattle.history_laws.proofs.Basics.{and-both, and-false, and-left, by-bool, is_no_message, link-is, none-is, or-none, or-true, same-link, some-is, some-left}
 use Rattle.history_laws.proofs.Wires.{CompletesHere, Elsewhere, Goes, Is, IsNot, IsOrNot, LandsHere, Quietly, SwallowedHere, apart, first-stands, is-or-not, next-lands, not-both, own-none, own-some, uncompleted-stand, unlanded-stand}
 use Rattle.history_laws.proofs.Items.{Deed, MoveDeed, NoDeed, Sends, Shape, StaysOn, below, below-messages, deed-stays, each-append, items-are, message-apart}
-use Rattle.history_laws.specs.Made.{IsMadeAny}
+use Rattle.history_laws.specs.Made.{IsMade}
 use Rattle.link_laws.specs.Lasting.{is_lost}
 use Rattle.lending_laws.specs.Ends.{OffersGoOn}
-use Rattle.wire_laws.specs.Agreement.{Agrees, IsCutOff, Owed}
+use Rattle.wire_laws.specs.Agreement.{Agrees, IsCutOff, OwedToAgreement}
 use Rattle.wire_laws.proofs.Agreement.Ends.{Mid, Now, Then, idle-any, items-by, mid-counts, mid-sends, none-sends, one-sends}
 use Rattle.wire_laws.proofs.Agreement.Step.{first-is-here, landed-is-here, own}
 use Rattle.wire_laws.proofs.Agreement.Way.{alive-not-lost, deed-shape, goes-on, mark, returns-own, swallowed-own}
@@ -71,7 +71,7 @@ pub each-both : (is : List Item) → EachItem (apart A) is → EachItem (apart B
 each-both [] p q = tt
 each-both (i ∷ is) p q = (both-apart i p.0 q.0, each-both is p.1 q.1)
 
-module _ (setup : Setup) (payload : List ℕ) (e : Entry) (past : List Entry) (before : ℕ) (made : IsMadeAny setup payload past before e) (owed : Owed setup payload past) (beside : OffersGoOn e past) (agree : Agrees setup payload past) where
+module _ (setup : Setup) (payload : List ℕ) (e : Entry) (past : List Entry) (before : ℕ) (made : IsMade setup payload past before e) (owed : OwedToAgreement setup payload past) (beside : OffersGoOn e past) (agree : Agrees setup payload past) where
   abbrev T : Terms
   T = terms_of setup
 

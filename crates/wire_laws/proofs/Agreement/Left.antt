@@ -9,10 +9,10 @@ use Rattle.history_laws.specs.Words.{A, B, Calls, Completes, Entry, Fate, GroupE
 use Rattle.history_laws.specs.Items.{EachItem}
 use Rattle.history_laws.proofs.Items.{AllStayOn, Deed, MoveDeed, MovesOff, NoDeed, Sends, Shape, all-ends, all-fates, below, deed-stays, is_below, moves-step, of-side-is, pipe-is-up, sends-step, shape}
 use Rattle.history_laws.proofs.Basics.{by-bool, either, none-is, not-true, of_side, or-true, same-is, same-link, some-is}
-use Rattle.history_laws.specs.Made.{IsMadeAny}
+use Rattle.history_laws.specs.Made.{IsMade}
 use Rattle.link_laws.specs.Lasting.{IsLiveOrLost, is_lost}
 use Rattle.lending_laws.specs.Ends.{HasLive, LivesOn, OffersGoOn}
-use Rattle.wire_laws.specs.Agreement.{Owed}
+use Rattle.wire_laws.specs.Agreement.{OwedToAgreement}
 use Rattle.wire_laws.proofs.Agreement.Ends.{Mid, Now, Then, below-stay, none-sends, one-sends, then-none, then-one}
 
 -- the link of the newest establishment of an end among some news
@@ -114,7 +114,7 @@ left-of setup payload past w x s on due =
     by (inl l) n = l
     by (inr i) n = absurd (true≢false (sym i ∙ n))
 
-module _ (setup : Setup) (payload : List ℕ) (e : Entry) (past : List Entry) (before : ℕ) (made : IsMadeAny setup payload past before e) (owed : Owed setup payload past) (beside : OffersGoOn e past) (w : HasLive setup payload past) (lives : LivesOn e past) (x : Side) (s : ℕ)
+module _ (setup : Setup) (payload : List ℕ) (e : Entry) (past : List Entry) (before : ℕ) (made : IsMade setup payload past before e) (owed : OwedToAgreement setup payload past) (beside : OffersGoOn e past) (w : HasLive setup payload past) (lives : LivesOn e past) (x : Side) (s : ℕ)
     (on : (Now setup payload e past before made owed beside x s).up ≡ true → IsLiveOrLost x (Now setup payload e past before made owed beside x s).link past) where
   abbrev T : Terms
   T = terms_of setup

@@ -8,11 +8,11 @@ use Rattle.history_laws.specs.Words.{CdcMessage, Entry, Half, LinkId, Offered, P
 use Rattle.history_laws.specs.Wires.{IsElse, cdc_under, cdcs, message}
 use Rattle.history_laws.proofs.Basics.{begins, by-bool, link-is}
 use Rattle.link_laws.specs.Lasting.{is_lost}
-use Rattle.wire_laws.specs.Agreement.{Agrees, IsOneEnds, Owed}
+use Rattle.wire_laws.specs.Agreement.{Agrees, IsOneEnds, OwedToAgreement}
 use Rattle.wire_laws.proofs.Agreement.Step.{no-head}
 
 -- a token is none that a side offered, or it is that of one offer
-module _ (setup : Setup) (payload : List ℕ) (past : List Entry) (owed : Owed setup payload past) (y : Side) (token : ℕ) where
+module _ (setup : Setup) (payload : List ℕ) (past : List Entry) (owed : OwedToAgreement setup payload past) (y : Side) (token : ℕ) where
   abbrev pub Found : Type 0
   Found = (s : ℕ) × ((o : Offered) × ((offered y s past ≡ Some o) × (token ≡ o.offer.token)))
 
@@ -58,7 +58,7 @@ module _ (setup : Setup) (payload : List ℕ) (past : List Entry) (owed : Owed s
         | inr more ↦ none-beyond s more
       ])
 
-pub first-is-next : (setup : Setup) (payload : List ℕ) (past : List Entry) → Owed setup payload past → Agrees setup payload past → (x : Side) (link : LinkId) → is_lost x link past ≡ false → (c : Placed) (rest : List Placed) → unlanded link x past ≡ c ∷ rest →
+pub first-is-next : (setup : Setup) (payload : List ℕ) (past : List Entry) → OwedToAgreement setup payload past → Agrees setup payload past → (x : Side) (link : LinkId) → is_lost x link past ≡ false → (c : Placed) (rest : List Placed) → unlanded link x past ≡ c ∷ rest →
     (m : CdcMessage) → cdc_under x m.token c.post ≡ Some m → IsOneEnds setup payload x link past m
 first-is-next setup payload past owed agree x link kept c rest w m n = by (find-token setup payload past owed (other x) m.token)
   where

@@ -8,9 +8,9 @@ use Rattle.pipe_model.specs.Calls.{Moves}
 use Rattle.history_laws.specs.Words.{Calls, EachOf, Entry, Half, IsMarked, Item, Setup, Side, Terms, deeds, group_on, half, is_due_for_move, part, pipe, same_side, step, terms_of, to_complete}
 use Rattle.history_laws.proofs.Basics.{by-bool, each-drop, same-is}
 use Rattle.history_laws.proofs.Items.{Deed, MoveDeed, MovesOff, NoDeed, Sends, Shape, StaysOn, below, deed-stays, less-step, moves-step, shape}
-use Rattle.history_laws.specs.Made.{IsMadeAny}
+use Rattle.history_laws.specs.Made.{IsMade}
 use Rattle.lending_laws.specs.Ends.{OffersGoOn}
-use Rattle.wire_laws.specs.Agreement.{Agrees, Owed}
+use Rattle.wire_laws.specs.Agreement.{Agrees, OwedToAgreement}
 use Rattle.wire_laws.proofs.Agreement.Ends.{Mid, Now, Then, idle-any, mid-counts, none-counts, none-sends, one-sends, then-one}
 
 -- that what an end has not completed is on its link
@@ -45,7 +45,7 @@ moves-on-own h k p =
     subst (λ ms. EachOf (λ m. m.link ≡ k.link) ms) (sym (ap (λ n. drop n k.sent) p.completed_is ∙ (ap (λ ms. drop (length h.sent) ms) p.sent_is ∙ drop-append_seam h.sent p.more))) p.on
 
 -- with each entry
-module _ (setup : Setup) (payload : List ℕ) (e : Entry) (past : List Entry) (before : ℕ) (made : IsMadeAny setup payload past before e) (owed : Owed setup payload past) (beside : OffersGoOn e past) (agree : Agrees setup payload past) (x : Side) (s : ℕ)
+module _ (setup : Setup) (payload : List ℕ) (e : Entry) (past : List Entry) (before : ℕ) (made : IsMade setup payload past before e) (owed : OwedToAgreement setup payload past) (beside : OffersGoOn e past) (agree : Agrees setup payload past) (x : Side) (s : ℕ)
     (on : IsOnOwn (Now setup payload e past before made owed beside x s)) where
   abbrev T : Terms
   T = terms_of setup

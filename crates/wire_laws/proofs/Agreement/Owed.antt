@@ -4,10 +4,10 @@ use Rattle.std.specs.Prelude.{None, Option, Some, is_some}
 use Rattle.pipe_model.specs.Connections.{comes_up}
 use Rattle.history_laws.specs.Words.{Entry, LinkId, Offered, Setup, Side, group_on, half, is_up, offered, other, pipe_of, terms_of}
 use Rattle.history_laws.proofs.Items.{pipe-is-up}
-use Rattle.history_laws.specs.Made.{IsMadeAll, IsMadeAny}
+use Rattle.history_laws.specs.Made.{IsMadeAll, IsMade}
 use Rattle.link_laws.specs.Lasting.{IsLiveOrLost}
 use Rattle.lending_laws.specs.Ends.{AllPlain, HasLive, LivesOn, OffersGoOn, OwedPlain}
-use Rattle.wire_laws.specs.Agreement.{Agrees, AllOwed, Owed}
+use Rattle.wire_laws.specs.Agreement.{Agrees, AllOwed, OwedToAgreement}
 use Rattle.wire_laws.proofs.Agreement.Left.{left-of, on-step}
 use Rattle.wire_laws.proofs.Agreement.Agree.{agrees, now-owed, same-group, up-offered}
 use Rattle.wire_laws.proofs.Agreement.Ends.{b-offered}
@@ -17,7 +17,7 @@ abbrev pub AllOn : Setup → List ℕ → List Entry → Type 0
 AllOn setup payload past = (x : Side) (s : ℕ) → is_up x s past ≡ true → IsLiveOrLost x (half x (pipe_of setup payload (group_on s past) s past)).link past
 
 module _ (setup : Setup) (payload : List ℕ) where
-  owed-of : (past : List Entry) → OwedPlain setup past → HasLive setup payload past → AllOn setup payload past → Owed setup payload past
+  owed-of : (past : List Entry) → OwedPlain setup past → HasLive setup payload past → AllOn setup payload past → OwedToAgreement setup payload past
   owed-of past p w on = record {
     known = p.known;
     tokens = p.tokens;
@@ -27,7 +27,7 @@ module _ (setup : Setup) (payload : List ℕ) where
     left = λ x s due. left-of setup payload past w x s (λ u. on x s (sym (pipe-is-up (terms_of setup) x payload (group_on s past) s past) ∙ u)) due;
   }
 
-  module _ (e : Entry) (past : List Entry) (before : ℕ) (made : IsMadeAny setup payload past before e) (owed : Owed setup payload past) (beside : OffersGoOn e past) (all : AllOwed setup payload past) (agree : Agrees setup payload past)
+  module _ (e : Entry) (past : List Entry) (before : ℕ) (made : IsMade setup payload past before e) (owed : OwedToAgreement setup payload past) (beside : OffersGoOn e past) (all : AllOwed setup payload past) (agree : Agrees setup payload past)
       (w : HasLive setup payload past) (lives : LivesOn e past) (on : AllOn setup payload past) where
     -- an end that is up was offered an element before
     was-offered : (x : Side) (s : ℕ) → is_up x s (e ∷ past) ≡ true → (o : Offered) × (offered (other x) s past ≡ Some o)

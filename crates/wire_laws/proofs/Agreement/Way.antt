@@ -9,13 +9,13 @@ use Rattle.pipe_model.specs.Wires.{may_swallow}
 use Rattle.history_laws.specs.Words.{A, B, Calls, CdcMessage, Completes, Entry, Half, IsMarked, Item, LinkId, Offered, Placed, Setup, Side, Terms, deeds, element_size, group_on, half, head, if_own, is_cdc, is_cut, is_due_for_move, is_nil, offered, other, part, pipe, same_link, same_side, some_reported, stands, step, table_of, terms_of, to_complete, uncompleted, unlanded}
 use Rattle.history_laws.proofs.Wires.{CompletesHere, Elsewhere, Goes, Is, IsMessage, IsNot, IsOrNot, LandsHere, Quietly, SwallowedHere, SwallowedNow, apart, first-stands, goes, is-or-not, next-completes, next-lands, nil-is, own-some, returning-long, uncompleted-stand, unlanded-stand}
 use Rattle.history_laws.proofs.Items.{Counts, Deed, MoveDeed, MovesOff, NoDeed, Sends, Shape, StaysOn, below, deed-stays, moves-step, shape}
-use Rattle.history_laws.specs.Made.{IsMadeAny}
+use Rattle.history_laws.specs.Made.{IsMade}
 use Rattle.history_laws.proofs.Basics.{and-both, and-left, by-bool, has-returning, link-is, none-is, returning-head, same-is, some-is}
 use Rattle.history_laws.specs.Wires.{CompletesNow, LandsNow, Stays, cdc_under, cdcs, message, returning}
 use Rattle.history_laws.specs.Items.{EachItem}
 use Rattle.link_laws.specs.Lasting.{is_lost}
 use Rattle.lending_laws.specs.Ends.{OffersGoOn}
-use Rattle.wire_laws.specs.Agreement.{Agrees, IsCarriedOn, Owed}
+use Rattle.wire_laws.specs.Agreement.{Agrees, IsCarriedOn, OwedToAgreement}
 use Rattle.wire_laws.proofs.Agreement.Ends.{Mid, Now, Then, completes-counts, idle-any, lands-counts, news-own, none-counts, none-sends, one-counts, one-sends, swallowed-counts, then-one}
 use Rattle.wire_laws.proofs.Agreement.Step.{first-is-here, landed-is-here, own, step-completes, step-elsewhere, step-lands, step-leaves, step-moves, step-passes, step-stays, step-swallowed, step-swallows-other}
 
@@ -33,7 +33,7 @@ message-stays x (Lands y) h i = tt
 message-stays x (Completes y) h i = tt
 message-stays x _ h i = absurd i
 
-module _ (setup : Setup) (payload : List ℕ) (e : Entry) (past : List Entry) (before : ℕ) (made : IsMadeAny setup payload past before e) (owed : Owed setup payload past) (beside : OffersGoOn e past) (agree : Agrees setup payload past) where
+module _ (setup : Setup) (payload : List ℕ) (e : Entry) (past : List Entry) (before : ℕ) (made : IsMade setup payload past before e) (owed : OwedToAgreement setup payload past) (beside : OffersGoOn e past) (agree : Agrees setup payload past) where
   abbrev T : Terms
   T = terms_of setup
 
