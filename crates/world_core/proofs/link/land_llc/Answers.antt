@@ -17,60 +17,99 @@ unreachable-requires c = some-llc c.args.landed.post c.requires.message c.in_def
 
 pub land_llc-requires-clause-may : goal.land_llc-requires-clause-may
 land_llc-requires-clause-may c =
-    let d = llc-taken c.args.moment c.requires.landed.0 c.args.landed c.args.own.now c.args.theirs.now c.requires.landed.1 c.requires.few c.in-Llc.link c.in-Llc.message (llc-from c.args.moment c.requires.landed.0 c.args.landed c.args.own.now c.args.theirs.now c.requires.landed.1 c.requires.few c.in-Llc.from c.in-Llc.link c.in-Llc.message c.in-Llc.is) in
+    let at = c.args.moment in
+    let few = c.requires.few in
+    let post = c.args.landed in
+    let theirs = c.args.theirs.now in
+    let l = c.requires.landed in
+    let own = c.args.own.now in
+    let m = c.in-Llc in
+    let is = llc-from at l.0 post own theirs l.1 few m.from m.link m.message m.is in
+    let d = llc-taken at l.0 post own theirs l.1 few m.link m.message is in
     d.may _
 
 pub land_llc-requires-clause-sound : goal.land_llc-requires-clause-sound
 land_llc-requires-clause-sound c =
-    let d = llc-taken c.args.moment c.requires.landed.0 c.args.landed c.args.own.now c.args.theirs.now c.requires.landed.1 c.requires.few c.in-Llc.link c.in-Llc.message (llc-from c.args.moment c.requires.landed.0 c.args.landed c.args.own.now c.args.theirs.now c.requires.landed.1 c.requires.few c.in-Llc.from c.in-Llc.link c.in-Llc.message c.in-Llc.is) in
+    let at = c.args.moment in
+    let few = c.requires.few in
+    let post = c.args.landed in
+    let theirs = c.args.theirs.now in
+    let l = c.requires.landed in
+    let own = c.args.own.now in
+    let m = c.in-Llc in
+    let is = llc-from at l.0 post own theirs l.1 few m.from m.link m.message m.is in
+    let d = llc-taken at l.0 post own theirs l.1 few m.link m.message is in
     d.sound
 
 pub send-requires-clause-may : goal.send-requires-clause-may
 send-requires-clause-may c =
-    let d = llc-taken c.args.moment c.requires.landed.0 c.args.landed c.args.own.now c.args.theirs.now c.requires.landed.1 c.requires.few c.in-Llc.link c.in-Llc.message (llc-from c.args.moment c.requires.landed.0 c.args.landed c.args.own.now c.args.theirs.now c.requires.landed.1 c.requires.few c.in-Llc.from c.in-Llc.link c.in-Llc.message c.in-Llc.is) in
+    let at = c.args.moment in
+    let few = c.requires.few in
+    let post = c.args.landed in
+    let theirs = c.args.theirs.now in
+    let l = c.requires.landed in
+    let own = c.args.own.now in
+    let m = c.in-Llc in
+    let is = llc-from at l.0 post own theirs l.1 few m.from m.link m.message m.is in
+    let d = llc-taken at l.0 post own theirs l.1 few m.link m.message is in
     let did = c.land_llc.ensures in
     let slice = c.as_slice.ensures in
-    let was = Their c.args.moment c.requires.landed.0 c.args.landed c.args.own.now c.args.theirs.now c.requires.landed.1 c.requires.few in
-    let stood = theirs-stand c.args.moment c.requires.landed.0 c.args.landed c.args.own.now c.args.theirs.now c.requires.landed.1 c.requires.few in
+    let was = Their at l.0 post own theirs l.1 few in
+    let stood = theirs-stand at l.0 post own theirs l.1 few in
     let step = did.step ∙ d.step _ in
     let due = did.posts was stood
-    ∙ (ap (λ (ps : List Post). ps ++ confirming_posts c.land_llc.result c.in-Llc.link was) c.requires.none
-    ∙ (ap (λ (r : FlowStep). confirming_posts r c.in-Llc.link was) step ∙ ap (λ (l : LinkId). confirming_posts (Live d.reply true) l was) d.link_is)) in
+    ∙ (ap (λ (ps : List Post). ps ++ confirming_posts c.land_llc.result m.link was) c.requires.none
+    ∙ (ap (λ (r : FlowStep). confirming_posts r m.link was) step ∙ ap (λ (l : LinkId). confirming_posts (Live d.reply true) l was) d.link_is)) in
     let acted = subst (λ (l : LinkId). StandsFor c.land_llc.new.self (confirms_link (Live d.reply true) l was)) d.link_is
-    (subst (λ (r : FlowStep). StandsFor c.land_llc.new.self (confirms_link r c.in-Llc.link was)) step (did.side was stood)) in
-    subst (λ (ps : List Post). MaySendAll (length c.args.theirs.now.flows.items) c.land_llc.new.self ps) (sym slice.value)
-    (posts-may-go c.args.moment c.requires.landed.0 c.args.landed c.args.own.now c.args.theirs.now c.requires.landed.1 c.requires.few _ _ _ d.taking d.told c.land_llc.new.self c.land_llc.new.posts.items due acted)
+    (subst (λ (r : FlowStep). StandsFor c.land_llc.new.self (confirms_link r m.link was)) step (did.side was stood)) in
+    subst (λ (ps : List Post). MaySendAll (length theirs.flows.items) c.land_llc.new.self ps) (sym slice.value)
+    (posts-may-go at l.0 post own theirs l.1 few _ _ _ d.taking d.told c.land_llc.new.self c.land_llc.new.posts.items due acted)
 
 pub send-requires-clause-room : goal.send-requires-clause-room
 send-requires-clause-room c =
-    let d = llc-taken c.args.moment c.requires.landed.0 c.args.landed c.args.own.now c.args.theirs.now c.requires.landed.1 c.requires.few c.in-Llc.link c.in-Llc.message (llc-from c.args.moment c.requires.landed.0 c.args.landed c.args.own.now c.args.theirs.now c.requires.landed.1 c.requires.few c.in-Llc.from c.in-Llc.link c.in-Llc.message c.in-Llc.is) in
+    let at = c.args.moment in
+    let few = c.requires.few in
+    let post = c.args.landed in
+    let theirs = c.args.theirs.now in
+    let l = c.requires.landed in
+    let own = c.args.own.now in
+    let m = c.in-Llc in
+    let is = llc-from at l.0 post own theirs l.1 few m.from m.link m.message m.is in
+    let d = llc-taken at l.0 post own theirs l.1 few m.link m.message is in
     let did = c.land_llc.ensures in
     let slice = c.as_slice.ensures in
-    let was = Their c.args.moment c.requires.landed.0 c.args.landed c.args.own.now c.args.theirs.now c.requires.landed.1 c.requires.few in
-    let stood = theirs-stand c.args.moment c.requires.landed.0 c.args.landed c.args.own.now c.args.theirs.now c.requires.landed.1 c.requires.few in
+    let was = Their at l.0 post own theirs l.1 few in
+    let stood = theirs-stand at l.0 post own theirs l.1 few in
     let step = did.step ∙ d.step _ in
     let due = did.posts was stood
-    ∙ (ap (λ (ps : List Post). ps ++ confirming_posts c.land_llc.result c.in-Llc.link was) c.requires.none
-    ∙ (ap (λ (r : FlowStep). confirming_posts r c.in-Llc.link was) step ∙ ap (λ (l : LinkId). confirming_posts (Live d.reply true) l was) d.link_is)) in
+    ∙ (ap (λ (ps : List Post). ps ++ confirming_posts c.land_llc.result m.link was) c.requires.none
+    ∙ (ap (λ (r : FlowStep). confirming_posts r m.link was) step ∙ ap (λ (l : LinkId). confirming_posts (Live d.reply true) l was) d.link_is)) in
     let acted = subst (λ (l : LinkId). StandsFor c.land_llc.new.self (confirms_link (Live d.reply true) l was)) d.link_is
-    (subst (λ (r : FlowStep). StandsFor c.land_llc.new.self (confirms_link r c.in-Llc.link was)) step (did.side was stood)) in
-    subst (λ (ps : List Post). length (filter goes_on_wire ps) ≤ room_of (wire_at 1 c.args.theirs.now)) (sym slice.value)
-    (posts-fit c.args.moment c.requires.landed.0 c.args.landed c.args.own.now c.args.theirs.now c.requires.landed.1 c.requires.few _ _ _ d.taking d.told c.land_llc.new.self c.land_llc.new.posts.items due acted)
+    (subst (λ (r : FlowStep). StandsFor c.land_llc.new.self (confirms_link r m.link was)) step (did.side was stood)) in
+    subst (λ (ps : List Post). length (filter goes_on_wire ps) ≤ room_of (wire_at 1 theirs)) (sym slice.value)
+    (posts-fit at l.0 post own theirs l.1 few _ _ _ d.taking d.told c.land_llc.new.self c.land_llc.new.posts.items due acted)
 
 pub returns : goal.returns
 returns c = λ x landed.
-    let d = llc-taken c.args.moment x c.args.landed c.args.own.now c.args.theirs.now landed c.requires.few c.in-Llc.link c.in-Llc.message (llc-from c.args.moment x c.args.landed c.args.own.now c.args.theirs.now landed c.requires.few c.in-Llc.from c.in-Llc.link c.in-Llc.message c.in-Llc.is) in
+    let at = c.args.moment in
+    let few = c.requires.few in
+    let post = c.args.landed in
+    let theirs = c.args.theirs.now in
+    let own = c.args.own.now in
+    let m = c.in-Llc in
+    let is = llc-from at x post own theirs landed few m.from m.link m.message m.is in
+    let d = llc-taken at x post own theirs landed few m.link m.message is in
     let did = c.land_llc.ensures in
     let slice = c.as_slice.ensures in
-    let was = Their c.args.moment x c.args.landed c.args.own.now c.args.theirs.now landed c.requires.few in
-    let stood = theirs-stand c.args.moment x c.args.landed c.args.own.now c.args.theirs.now landed c.requires.few in
+    let was = Their at x post own theirs landed few in
+    let stood = theirs-stand at x post own theirs landed few in
     let step = did.step ∙ d.step _ in
     let due = did.posts was stood
-    ∙ (ap (λ (ps : List Post). ps ++ confirming_posts c.land_llc.result c.in-Llc.link was) c.requires.none
-    ∙ (ap (λ (r : FlowStep). confirming_posts r c.in-Llc.link was) step ∙ ap (λ (l : LinkId). confirming_posts (Live d.reply true) l was) d.link_is)) in
+    ∙ (ap (λ (ps : List Post). ps ++ confirming_posts c.land_llc.result m.link was) c.requires.none
+    ∙ (ap (λ (r : FlowStep). confirming_posts r m.link was) step ∙ ap (λ (l : LinkId). confirming_posts (Live d.reply true) l was) d.link_is)) in
     let acted = subst (λ (l : LinkId). StandsFor c.land_llc.new.self (confirms_link (Live d.reply true) l was)) d.link_is
-    (subst (λ (r : FlowStep). StandsFor c.land_llc.new.self (confirms_link r c.in-Llc.link was)) step (did.side was stood)) in
+    (subst (λ (r : FlowStep). StandsFor c.land_llc.new.self (confirms_link r m.link was)) step (did.side was stood)) in
     let sent = c.send.ensures in
-    message-lands c.args.moment x c.args.landed c.args.own.now c.args.theirs.now landed c.requires.few _ _ _ d.taking d.told c.land_llc.new.self c.land_llc.new.posts.items due acted d.own_stands c.send.new.self (length c.args.moment.history.now + 1) refl sent.core
-    (λ n stands. sent.wire n stands ∙ ap (λ (ps : List Post). with_posts (carried_from n (length c.args.moment.history.now + 1) 1 ps) (wire_at 1 c.args.theirs.now)) slice.value)
-    (sent.flows ∙ ap (λ (ps : List Post). puts_all ps c.args.theirs.now.flows.items) slice.value)
+    message-lands at x post own theirs landed few _ _ _ d.taking d.told c.land_llc.new.self c.land_llc.new.posts.items due acted d.own_stands c.send.new.self (length at.history.now + 1) refl sent.core
+    (λ n stands. sent.wire n stands ∙ ap (λ (ps : List Post). with_posts (carried_from n (length at.history.now + 1) 1 ps) (wire_at 1 theirs)) slice.value)
+    (sent.flows ∙ ap (λ (ps : List Post). puts_all ps theirs.flows.items) slice.value)

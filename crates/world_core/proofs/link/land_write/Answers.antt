@@ -11,31 +11,47 @@ unreachable-requires c = some-write c.args.landed.post c.requires.write c.in_def
 pub unreachable-requires-in_default-next_cdc : goal.unreachable-requires-in_default-next_cdc
 unreachable-requires-in_default-next_cdc c =
     let l = c.requires.landed in
-    some-follows l.0 l.1 c.args.landed c.args.own.now c.args.theirs.now l.2 l.3 c.in-Write.link c.in-Write.key c.in-Write.address c.in-Write.len (write-from l.0 l.1 c.args.landed c.args.own.now c.args.theirs.now l.2 l.3 c.in-Write.from c.in-Write.link c.in-Write.key c.in-Write.address c.in-Write.len c.in-Write.is)
-    (ap (λ k. next_cdc (map (λ (d : Carried). d.post) (wire_at k c.args.own.now).waiting)) (sym (on-slot l.0 l.1 c.args.landed c.args.own.now c.args.theirs.now l.2 l.3 c.in-Write.link c.in-Write.key c.in-Write.address c.in-Write.len (write-from l.0 l.1 c.args.landed c.args.own.now c.args.theirs.now l.2 l.3 c.in-Write.from c.in-Write.link c.in-Write.key c.in-Write.address c.in-Write.len c.in-Write.is)))
-    ∙ (sym c.next_cdc.ensures ∙ c.in_default-next_cdc.is))
+    let post = c.args.landed in
+    let own = c.args.own.now in
+    let theirs = c.args.theirs.now in
+    let w = c.in-Write in
+    let is = write-from l.0 l.1 post own theirs l.2 l.3 w.from w.link w.key w.address w.len w.is in
+    let slot = on-slot l.0 l.1 post own theirs l.2 l.3 w.link w.key w.address w.len is in
+    some-follows l.0 l.1 post own theirs l.2 l.3 w.link w.key w.address w.len is (ap (λ k. next_cdc (map (λ (d : Carried). d.post) (wire_at k own).waiting)) (sym slot) ∙ (sym c.next_cdc.ensures ∙ c.in_default-next_cdc.is))
 
 pub outgoing-requires : goal.outgoing-requires
 outgoing-requires c =
     let l = c.requires.landed in
-    may-go l.0 l.1 c.args.landed c.args.own.now c.args.theirs.now l.2 l.3 c.in-Write.link c.in-Write.key c.in-Write.address c.in-Write.len (write-from l.0 l.1 c.args.landed c.args.own.now c.args.theirs.now l.2 l.3 c.in-Write.from c.in-Write.link c.in-Write.key c.in-Write.address c.in-Write.len c.in-Write.is)
-    c.in-Some.message
-    (ap (λ k. next_cdc (map (λ (d : Carried). d.post) (wire_at k c.args.own.now).waiting)) (sym (on-slot l.0 l.1 c.args.landed c.args.own.now c.args.theirs.now l.2 l.3 c.in-Write.link c.in-Write.key c.in-Write.address c.in-Write.len (write-from l.0 l.1 c.args.landed c.args.own.now c.args.theirs.now l.2 l.3 c.in-Write.from c.in-Write.link c.in-Write.key c.in-Write.address c.in-Write.len c.in-Write.is)))
-    ∙ (sym c.next_cdc.ensures ∙ c.in-Some.is))
+    let post = c.args.landed in
+    let own = c.args.own.now in
+    let theirs = c.args.theirs.now in
+    let w = c.in-Write in
+    let is = write-from l.0 l.1 post own theirs l.2 l.3 w.from w.link w.key w.address w.len w.is in
+    let slot = on-slot l.0 l.1 post own theirs l.2 l.3 w.link w.key w.address w.len is in
+    may-go l.0 l.1 post own theirs l.2 l.3 w.link w.key w.address w.len is c.in-Some.message
+    (ap (λ k. next_cdc (map (λ (d : Carried). d.post) (wire_at k own).waiting)) (sym slot) ∙ (sym c.next_cdc.ensures ∙ c.in-Some.is))
 
 pub land_write-requires : goal.land_write-requires
 land_write-requires c =
     let l = c.requires.landed in
-    may-write l.0 l.1 c.args.landed c.args.own.now c.args.theirs.now l.2 l.3 c.in-Write.link c.in-Write.key c.in-Write.address c.in-Write.len (write-from l.0 l.1 c.args.landed c.args.own.now c.args.theirs.now l.2 l.3 c.in-Write.from c.in-Write.link c.in-Write.key c.in-Write.address c.in-Write.len c.in-Write.is)
-    c.in-Some.message
-    (ap (λ k. next_cdc (map (λ (d : Carried). d.post) (wire_at k c.args.own.now).waiting)) (sym (on-slot l.0 l.1 c.args.landed c.args.own.now c.args.theirs.now l.2 l.3 c.in-Write.link c.in-Write.key c.in-Write.address c.in-Write.len (write-from l.0 l.1 c.args.landed c.args.own.now c.args.theirs.now l.2 l.3 c.in-Write.from c.in-Write.link c.in-Write.key c.in-Write.address c.in-Write.len c.in-Write.is)))
-    ∙ (sym c.next_cdc.ensures ∙ c.in-Some.is))
+    let post = c.args.landed in
+    let own = c.args.own.now in
+    let theirs = c.args.theirs.now in
+    let w = c.in-Write in
+    let is = write-from l.0 l.1 post own theirs l.2 l.3 w.from w.link w.key w.address w.len w.is in
+    let slot = on-slot l.0 l.1 post own theirs l.2 l.3 w.link w.key w.address w.len is in
+    may-write l.0 l.1 post own theirs l.2 l.3 w.link w.key w.address w.len is c.in-Some.message
+    (ap (λ k. next_cdc (map (λ (d : Carried). d.post) (wire_at k own).waiting)) (sym slot) ∙ (sym c.next_cdc.ensures ∙ c.in-Some.is))
     c.outgoing.result.0.now c.outgoing.result.1.now c.outgoing.ensures
 
 pub returns : goal.returns
 returns c = λ at x landed few.
-    write-lands at x c.args.landed c.args.own.now c.args.theirs.now landed few c.in-Write.link c.in-Write.key c.in-Write.address c.in-Write.len (write-from at x c.args.landed c.args.own.now c.args.theirs.now landed few c.in-Write.from c.in-Write.link c.in-Write.key c.in-Write.address c.in-Write.len c.in-Write.is)
-    c.in-Some.message
-    (ap (λ k. next_cdc (map (λ (d : Carried). d.post) (wire_at k c.args.own.now).waiting)) (sym (on-slot at x c.args.landed c.args.own.now c.args.theirs.now landed few c.in-Write.link c.in-Write.key c.in-Write.address c.in-Write.len (write-from at x c.args.landed c.args.own.now c.args.theirs.now landed few c.in-Write.from c.in-Write.link c.in-Write.key c.in-Write.address c.in-Write.len c.in-Write.is)))
-    ∙ (sym c.next_cdc.ensures ∙ c.in-Some.is))
+    let post = c.args.landed in
+    let own = c.args.own.now in
+    let theirs = c.args.theirs.now in
+    let w = c.in-Write in
+    let is = write-from at x post own theirs landed few w.from w.link w.key w.address w.len w.is in
+    let slot = on-slot at x post own theirs landed few w.link w.key w.address w.len is in
+    write-lands at x post own theirs landed few w.link w.key w.address w.len is c.in-Some.message
+    (ap (λ k. next_cdc (map (λ (d : Carried). d.post) (wire_at k own).waiting)) (sym slot) ∙ (sym c.next_cdc.ensures ∙ c.in-Some.is))
     c.outgoing.result.0.now c.outgoing.result.1.now c.outgoing.ensures c.land_write.new.self c.land_write.ensures
