@@ -18,9 +18,9 @@ use Rattle.pipe_model.specs.Snapshot.{spelled, validation, is_validation, shows_
 use Rattle.pipe_model.specs.Closing.{after_completing}
 use Rattle.pipe_model.specs.Ends.{fresh as fresh_half}
 use Rattle.pipe_model.specs.Ends.{Half, is_over, strikes, takes, takes_snapshot, validates, counts_completed, completes}
-use Rattle.pipe_model.specs.Parts.{is_shut, MayTake}
+use Rattle.pipe_model.specs.Parts.{is_shut}
 use Rattle.conn_end.specs.Kept.{Kept, Course, at_course, ring_of, tolds, IsWhole}
-use Rattle.conn_end.specs.Arrivals.{IsSpelling, Lands, Completes}
+use Rattle.conn_end.specs.Arrivals.{IsTakable, IsSpelling, Lands, Completes}
 use Rattle.conn_end.proofs.Ends.{Stands, came, stands_there, after, whole_phase, phase_only}
 use Rattle.conn_end.proofs.Phases.{struck_shut, open_before_strike, open_before_completing}
 
@@ -95,7 +95,7 @@ taken_open s h true aborted free = absurd (true≢false (sym (taken_shut s h abo
 taken_open s h false going free = sym (ap (λ b. is_shut (cond b (strikes PeerAbort (record h { taken = s })) (record h { taken = s })).phase) going) ∙ free
 
 -- what is kept after a snapshot was taken
-pub whole_taken : (size : ℕ) (ring more : KeptRing) (count : ℕ) (c d : Course) (s : Snapshot) (h : Half) → Stands size ring count c h → MayTake size s h → RingStandsFor more (acks s.read (ring_of size ring.bytes c)) → d ≡ record c { taken = s; phase = d.phase } → d.phase ≡ (takes_snapshot s (at_course c h)).phase → IsWhole size more count d
+pub whole_taken : (size : ℕ) (ring more : KeptRing) (count : ℕ) (c d : Course) (s : Snapshot) (h : Half) → Stands size ring count c h → IsTakable size s h → RingStandsFor more (acks s.read (ring_of size ring.bytes c)) → d ≡ record c { taken = s; phase = d.phase } → d.phase ≡ (takes_snapshot s (at_course c h)).phase → IsWhole size more count d
 whole_taken size ring more count c d s h stands may rings e phase = subst (λ (x : Course). IsWhole size more count x) (sym e) (record {
   few = w.few;
   most = w.most;
@@ -116,7 +116,7 @@ whole_taken size ring more count c d s h stands may rings e phase = subst (λ (x
         ⊎_elim (λ aborted. absurd (true≢false (sym (taken_shut s (at_course c h) aborted) ∙ taken)))
         (λ more. omega (arith, w.reads before, more, ap (λ (t : Snapshot). t.told) stands.taken)) may.tells_on
 
-pub taken : (size : ℕ) (ring more : KeptRing) (count : ℕ) (c d : Course) (s : Snapshot) (h : Half) → Stands size ring count c h → MayTake size s h → RingStandsFor more (acks s.read (ring_of size ring.bytes c)) → d ≡ record c { taken = s; phase = d.phase } → at_course d h ≡ takes_snapshot s (at_course c h) → Stands size more count d (takes_snapshot s h)
+pub taken : (size : ℕ) (ring more : KeptRing) (count : ℕ) (c d : Course) (s : Snapshot) (h : Half) → Stands size ring count c h → IsTakable size s h → RingStandsFor more (acks s.read (ring_of size ring.bytes c)) → d ≡ record c { taken = s; phase = d.phase } → at_course d h ≡ takes_snapshot s (at_course c h) → Stands size more count d (takes_snapshot s h)
 taken size ring more count c d s h stands may rings e is =
     stands_there size more count d h (takes_snapshot s h)
     (whole_taken size ring more count c d s h stands may rings e (ap (λ (q : Half). q.phase) is))
@@ -209,8 +209,8 @@ module _ (k : Kept) (m : CdcMessage) (plain : Snapshot) (h : Half) (sent : Sent)
   landed_is : plain ≡ sent.snapshot
   landed_is = l.spelling.plainly fresh
 
-  landed_may : MayTake k.size plain h
-  landed_may = subst (λ (s : Snapshot). MayTake k.size s h) (sym landed_is) (l.taken fresh)
+  landed_may : IsTakable k.size plain h
+  landed_may = subst (λ (s : Snapshot). IsTakable k.size s h) (sym landed_is) (l.taken fresh)
 
   landed_rings : (more : KeptRing) → Acks k.ring m.read more → RingStandsFor more (acks plain.read (ring_of k.size k.ring.bytes k.course))
   landed_rings more acks =

@@ -16,7 +16,7 @@ use Rattle.pipe_model.specs.Snapshot.{spelled, validation}
 use Rattle.pipe_model.specs.Parts.{MayTake}
 use Rattle.cdc_ring.specs.declared.Piece.{Piece}
 use Rattle.conn_end.specs.Batches.{IsKeptPiece}
-use Rattle.conn_end.specs.Arrivals.{IsSpelling, MayLand, MayComplete}
+use Rattle.conn_end.specs.Arrivals.{IsTakable, IsSpelling, MayLand, MayComplete}
 use Rattle.pipe_model.specs.Closing.{cause_of}
 use Rattle.pipe_model.specs.Ends.{Half, fresh, meets_fate}
 use Rattle.pipe_model.specs.Calls.{Told, Plain, Reads, Awaits, is_waiting, half_told}
@@ -90,8 +90,8 @@ may_take_check k token m s w e = record {
   };
 }
 
-pub may_take_spelled : (k : Kept) (token : ℕ) (m : CdcMessage) (s : Snapshot) → IsKept k → m ≡ spelled k.size token s → ((h : Half) → StandsFor k h → MayTake k.size s h) → MayLand k m s
-may_take_spelled k token m s w e may = record {
+pub takable_spelled : (k : Kept) (token : ℕ) (m : CdcMessage) (s : Snapshot) → IsKept k → m ≡ spelled k.size token s → ((h : Half) → StandsFor k h → IsTakable k.size s h) → MayLand k m s
+takable_spelled k token m s w e may = record {
   end = with_zeros k;
   sent = was_sent false s;
   lands = record {
@@ -125,3 +125,7 @@ keeps_first k piece w place len = record {
     to = omega (arith, w.counted, len, (stands_for_zeros k w).accepted);
   };
 }
+
+-- what lands in the pipe may be taken
+pub takable : (size : ℕ) (s : Snapshot) (h : Half) → MayTake size s h → IsTakable size s h
+takable size s h may = record { reads_on = may.reads_on; reads_accepted = may.reads_accepted; fits = may.fits; tells_on = may.tells_on }

@@ -38,6 +38,7 @@ use closing::Step;
 use course::Course;
 pub use laws::{
     an_await_is_told_by_a_read, each_end_stands_for_a_plain_one, its_links_are_its_owners,
+    what_lands_may_be_taken,
 };
 use pipe_model::{ResetCause, Snapshot};
 use smc_num::NoMemory;

@@ -1,7 +1,7 @@
 ghost use Rattle.std.specs.Prelude.{◌≡◌, true};
 ghost use Rattle.pipe_model.specs.Ends.{Half};
-ghost use Rattle.pipe_model.specs.Parts.{MayTake};
 ghost use Rattle.conn_end.specs.Kept.{StandsFor};
+ghost use Rattle.conn_end.specs.Arrivals.{IsTakable};
 
 use super::*;
 use cdc_wire::{Cursor, FAILOVER_VALIDATION};
@@ -53,15 +53,14 @@ const fn peer(number: u64, told: u64, read: u64) -> Snapshot {
 
 // Whether the end may take a snapshot.
 fn may_take(end: &ConnEnd, s: &Snapshot) -> bool
-    ensures { (h : Half) → StandsFor end.now h → result ≡ true → MayTake end.now.size s.now h }
+    ensures { (h : Half) → StandsFor end.now h → result ≡ true → IsTakable end.now.size s.now h }
 {
     let taken = end.course.taken();
     let size = end.size as u64;
-    let rises = taken.number < s.number;
     let reads = taken.read <= s.read && s.read <= end.accepted;
     let fits = s.told.saturating_sub(end.course.bytes_read()) <= size;
-    let tells = (s.aborted || taken.told <= s.told) && taken.told.saturating_sub(s.told) <= size;
-    rises && (reads && (fits && tells))
+    let tells = s.aborted || taken.told <= s.told;
+    reads && (fits && tells)
 }
 
 fn land(rt: &impl Abort, end: &mut ConnEnd, s: Snapshot) -> Taken {

@@ -20,11 +20,10 @@ use Rattle.pipe_model.specs.declared.sent.Sent.{Sent}
 use Rattle.pipe_model.specs.Connections.{WaitsLink}
 use Rattle.pipe_model.specs.Ends.{Half, is_over}
 use Rattle.pipe_model.specs.Flows.{flow_step}
-use Rattle.pipe_model.specs.Parts.{MayTake as MayTakeSnapshot}
 use Rattle.pipe_model.specs.Pipe.{Terms}
 use Rattle.pipe_model.specs.Posts.{offered_place}
 use Rattle.pipe_model.specs.Replies.{expects}
-use Rattle.conn_end.specs.Arrivals.{Completes}
+use Rattle.conn_end.specs.Arrivals.{IsTakable, Completes}
 use Rattle.conn_end.specs.Batches.{message_of}
 use Rattle.conn_end.specs.Kept.{Kept}
 use Rattle.smc_num.specs.Names.{head}
@@ -202,7 +201,7 @@ pub record Comes (s : ℕ) (message : CdcMessage) (sent : Sent) (c : Connection 
   pub there : conn_at s m.records ≡ Some c
   pub held : holder message.token m.records ≡ Some s
   pub spelled : message ≡ message_of m.records.terms.size message.token sent
-  pub taken : MayTakeSnapshot m.records.terms.size sent.snapshot c.end
+  pub taken : IsTakable m.records.terms.size sent.snapshot c.end
   pub going : is_over c.end ≡ false
   pub sound : IsSoundPlain m.records.terms.size (conn_at s m.records)
 
@@ -222,7 +221,7 @@ module _ (s : ℕ) (message : CdcMessage) (sent : Sent) (c : Connection Half) (v
           lands = record {
             stands = st.end;
             spelling = record { spelled = comes.spelled ∙ ap (λ n. message_of n message.token sent) size; plainly = λ e. refl };
-            taken = λ e. subst (λ n. MayTakeSnapshot n sent.snapshot c.end) size comes.taken;
+            taken = λ e. subst (λ n. IsTakable n sent.snapshot c.end) size comes.taken;
           };
           going = comes.going;
         }

@@ -57,7 +57,7 @@ abbrev pub written : CdcMessage
 written = spelled 16384 1 a_told
 
 written_comes : Comes 0 written a_sent (conn_of b_landed) b_landed
-written_comes = record { there = refl; held = refl; spelled = refl; taken = record { number_rises = omega arith; reads_on = omega arith; reads_accepted = omega arith; fits = omega arith; tells_on = inr (omega arith); tells_near = omega arith }; going = refl; sound = record { out_few = omega arith; number_few = omega arith; fits = omega arith } }
+written_comes = record { there = refl; held = refl; spelled = refl; taken = record { reads_on = omega arith; reads_accepted = omega arith; fits = omega arith; tells_on = inr (omega arith) }; going = refl; sound = record { out_few = omega arith; number_few = omega arith; fits = omega arith } }
 
 pub may_hear_written : (v : Manager Kept) → StandsFor v b_landed → MayLandIn written a_told v
 may_hear_written v st = may_land 0 written a_sent (conn_of b_landed) v b_landed st written_comes
@@ -83,7 +83,7 @@ abbrev pub has_read : CdcMessage
 has_read = spelled 16384 1 b_told
 
 read_comes : Comes 0 has_read b_sent (conn_of a_wrote) a_wrote
-read_comes = record { there = refl; held = refl; spelled = refl; taken = record { number_rises = omega arith; reads_on = omega arith; reads_accepted = omega arith; fits = omega arith; tells_on = inr (omega arith); tells_near = omega arith }; going = refl; sound = record { out_few = omega arith; number_few = omega arith; fits = omega arith } }
+read_comes = record { there = refl; held = refl; spelled = refl; taken = record { reads_on = omega arith; reads_accepted = omega arith; fits = omega arith; tells_on = inr (omega arith) }; going = refl; sound = record { out_few = omega arith; number_few = omega arith; fits = omega arith } }
 
 pub may_hear_read : (v : Manager Kept) → StandsFor v a_wrote → MayLandIn has_read b_told v
 may_hear_read v st = may_land 0 has_read b_sent (conn_of a_wrote) v a_wrote st read_comes

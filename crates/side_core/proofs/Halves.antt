@@ -7,18 +7,15 @@ use Rattle.pipe_model.specs.declared.snapshot.Snapshot.{Snapshot}
 use Rattle.pipe_model.specs.declared.sent.Sent.{Sent}
 use Rattle.pipe_model.specs.Snapshot.{is_last}
 use Rattle.pipe_model.specs.Ends.{Half, is_over}
-use Rattle.pipe_model.specs.Parts.{MayTake}
 use Rattle.conn_end.specs.Kept.{Kept, StandsFor}
-use Rattle.conn_end.specs.Arrivals.{Lands, Completes}
+use Rattle.conn_end.specs.Arrivals.{IsTakable, Lands, Completes}
 
-may_take_same : (size : ℕ) (s : Snapshot) (h g : Half) → h.taken ≡ g.taken → length h.out ≡ length g.out → h.rd ≡ g.rd → MayTake size s h → MayTake size s g
-may_take_same size s h g taken accepted read may = record {
-  number_rises = subst (λ (t : Snapshot). t.number < s.number) taken may.number_rises;
+takable_same : (size : ℕ) (s : Snapshot) (h g : Half) → h.taken ≡ g.taken → length h.out ≡ length g.out → h.rd ≡ g.rd → IsTakable size s h → IsTakable size s g
+takable_same size s h g taken accepted read may = record {
   reads_on = subst (λ (t : Snapshot). t.read ≤ s.read) taken may.reads_on;
   reads_accepted = subst (λ n. s.read ≤ n) accepted may.reads_accepted;
   fits = subst (λ n. s.told ≤ n + size) read may.fits;
   tells_on = subst (λ (t : Snapshot). (s.aborted ≡ true) ⊎ (t.told ≤ s.told)) taken may.tells_on;
-  tells_near = subst (λ (t : Snapshot). t.told ≤ s.told + size) taken may.tells_near;
 }
 
 -- a message that lands on one end may land on another for which the same end stands
@@ -26,7 +23,7 @@ pub lands_too : (k : Kept) (m : CdcMessage) (plain : Snapshot) (h g : Half) (sen
 lands_too k m plain h g sent stands lands = record {
   stands = stands;
   spelling = lands.spelling;
-  taken = λ e. may_take_same k.size sent.snapshot h g (sym lands.stands.taken ∙ stands.taken) (sym lands.stands.accepted ∙ stands.accepted) (sym lands.stands.read ∙ stands.read) (lands.taken e);
+  taken = λ e. takable_same k.size sent.snapshot h g (sym lands.stands.taken ∙ stands.taken) (sym lands.stands.accepted ∙ stands.accepted) (sym lands.stands.read ∙ stands.read) (lands.taken e);
 }
 
 -- the same of one that completes

@@ -19,7 +19,6 @@ use Rattle.pipe_model.specs.Snapshot.{spelled, validation}
 use Rattle.pipe_model.specs.History.{Offered, offered}
 use Rattle.pipe_model.specs.Wires.{is_on, unlanded, uncompleted}
 use Rattle.pipe_model.specs.Ends.{Half, to_land, to_complete}
-use Rattle.pipe_model.specs.Parts.{MayTake}
 use Rattle.pipe_model.specs.Pipe.{half}
 use Rattle.pipe_model.specs.Connections.{is_up, end_state, part, group_on}
 use Rattle.pipe_model.specs.Lending.{lends_by, terms_of, pipe_of}
@@ -27,7 +26,8 @@ use Rattle.pipe_model.proofs.Facts.{lands-well, completes-well}
 use Rattle.rc_link.specs.declared.Carried.{Carried}
 use Rattle.rc_link.specs.Wire.{Queues, placed}
 use Rattle.conn_end.specs.Kept.{Kept}
-use Rattle.conn_end.specs.Arrivals.{IsSpelling, Completes}
+use Rattle.conn_end.specs.Arrivals.{IsSpelling, IsTakable, Completes}
+use Rattle.conn_end.proofs.Owners.{takable}
 use Rattle.side_core.specs.Records.{Connection, IsSized, conn_at, holder, aimer}
 use Rattle.side_core.specs.Manager.{Manager, StandsFor}
 use Rattle.side_core.specs.Acting.{IsSoundAt}
@@ -265,7 +265,7 @@ module _ (setup : Setup) (payload : List ℕ) (set : IsWorldSet setup payload) (
             lands = record {
               stands = stands.end;
               spelling = spelling-is kept.kept.end.size m sp.sent c.plain size open_sent.0 sp.spells plain;
-              taken = λ b. subst (λ k. MayTake k (sp.sent).snapshot Taker) (sym size) (lands-well (terms_of setup) x (part payload (group_on sp.s past) sp.s past) sp.sent can.feasible sp.sent_is b);
+              taken = λ b. subst (λ k. IsTakable k (sp.sent).snapshot Taker) (sym size) (takable (element_size setup) (sp.sent).snapshot Taker (lands-well (terms_of setup) x (part payload (group_on sp.s past) sp.s past) sp.sent can.feasible sp.sent_is b));
             };
             going = pipe.not_over (other x);
           }
