@@ -8,20 +8,24 @@ use Rattle.cdc_wire.specs.declared.CdcFault.{CdcFault}
 use Rattle.cdc_wire.specs.declared.CdcFault.TheVariants.{BadType, BadLength}
 
 -- the bytes of a cursor, behind its two reserved bytes
+-- after RFC 7609, A.4
 abbrev pub cursor_bytes : List ℕ → Cursor → List ℕ
 cursor_bytes reserved cursor = (reserved ++ big_bytes 2 cursor.wrap) ++ big_bytes 4 cursor.count
 
 -- the bytes of a message, around what stands in the reserved places
+-- after RFC 7609, A.4
 abbrev pub bytes_around : List ℕ → List ℕ → List ℕ → CdcMessage → List ℕ
 bytes_around first second last m =
     ((((254 ∷ 44 ∷ (big_bytes 2 m.number ++ big_bytes 4 m.token)) ++ cursor_bytes first m.told) ++ cursor_bytes second m.read)
     ++ m.producer ∷ m.state ∷ []) ++ last
 
 -- the one spelling of a message: reserved bytes are 0
+-- after RFC 7609, A.4
 abbrev pub cdc_bytes : CdcMessage → List ℕ
 cdc_bytes m = bytes_around (zeros 2) (zeros 2) (zeros 18) m
 
 -- bytes spell a message, whatever the reserved ones hold
+-- after RFC 7609, A.4; ours: what reserved bytes hold is passed over
 pub record IsSpelling (bytes : List ℕ) (m : CdcMessage) : Type 0 where
   pub first : List ℕ
   pub second : List ℕ
@@ -32,6 +36,7 @@ pub record IsSpelling (bytes : List ℕ) (m : CdcMessage) : Type 0 where
   pub are : bytes ≡ bytes_around first second last m
 
 -- the fields have the widths of their types
+-- after RFC 7609, A.4
 pub record IsMessage (m : CdcMessage) : Type 0 where
   pub number : m.number < 2 ^ 16
   pub token : m.token < 2 ^ 32
@@ -41,10 +46,12 @@ pub record IsMessage (m : CdcMessage) : Type 0 where
   pub read_count : m.read.count < 2 ^ 32
 
 -- the cursor whose reserved bytes stand at a place
+-- after RFC 7609, A.4
 abbrev pub cursor_at : ℕ → List ℕ → Cursor
 cursor_at place bytes = record { wrap = number_at 2 (place + 2) bytes; count = number_at 4 (place + 4) bytes }
 
 -- the fields of a message by their places
+-- after RFC 7609, A.4
 abbrev pub fields_of : List ℕ → CdcMessage
 fields_of bytes = record {
   number = number_at 2 2 bytes;
@@ -56,6 +63,7 @@ fields_of bytes = record {
 }
 
 -- the message that the bytes spell, or the first fault by place
+-- after RFC 7609, A.4; the faults are ours
 abbrev pub cdc_read : List ℕ → Result CdcMessage CdcFault
 cdc_read bytes =
     if slice_index bytes 0 == 254 then (if slice_index bytes 1 == 44 then Ok (fields_of bytes) else Err (BadLength (slice_index bytes 1)))

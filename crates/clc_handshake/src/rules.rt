@@ -76,6 +76,7 @@ fn take_first_accept(view: &Lacks) -> ClcStep
 fn take_later_accept(offer: &Offer, view: &Lacks) -> ClcStep
     ensures { result ≡ on_later_accept offer.now view.now }
 {
+    // The packet sequence number carries the group.
     if offer.psn != view.group {
         return ClcStep::Decline(Lack::GroupLost {
             named: offer.psn,

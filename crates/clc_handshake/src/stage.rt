@@ -62,7 +62,7 @@ fn confirmed(first: bool) -> Stage
     if first { Stage::Link } else { Stage::Up }
 }
 
-/// The group that an offer names.
+/// The group that an offer names: its packet sequence number carries it.
 fn named_group(message: &ClcMessage) -> u32
     ensures { result ≡ named_group message.now }
 {

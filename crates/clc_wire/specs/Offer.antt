@@ -7,14 +7,18 @@ use Rattle.clc_wire.specs.declared.offer.Offer.{Offer}
 use Rattle.clc_wire.specs.Header.{eye_catcher, header_bytes}
 
 -- the fields of 24 and of 4 bits fit
+-- after RFC 7609, A.2.3 and A.2.4
 abbrev pub OfferFits : Offer → Type 0
 OfferFits o = (o.qp < 2 ^ 24) × (o.size < 16) × (o.mtu < 16) × (o.psn < 2 ^ 24)
 
 -- the fields have the widths of their types
+-- after RFC 7609, A.2.3 and A.2.4
 abbrev pub IsOffer : Offer → Type 0
 IsOffer o = (length o.peer ≡ 8) × (length o.gid ≡ 16) × (length o.mac ≡ 6) × (o.key < 2 ^ 32) × (o.token < 2 ^ 32) × (o.address < 2 ^ 64)
 
 -- the one spelling of an Accept or a Confirm
+-- after RFC 7609, A.2.3 and A.2.4, where `psn` is the initial packet sequence number; ours: it carries the
+-- group's number, since the fabric in memory has no packet sequence
 unfoldable pub offer_bytes : Kind → Offer → List ℕ
 offer_bytes kind o =
     header_bytes kind o.first ++ o.peer ++ o.gid ++ o.mac ++ big_bytes 3 o.qp ++ big_bytes 4 o.key ++ o.index ∷ []
@@ -22,6 +26,7 @@ offer_bytes kind o =
     ++ eye_catcher
 
 -- the fields at their places
+-- after RFC 7609, A.2.3 and A.2.4
 unfoldable pub offer_at : Bool → List ℕ → Offer
 offer_at first bytes = record {
   first = first;

@@ -33,7 +33,8 @@ pub struct Offer {
     pub mtu: u8,
     /// The address of the RMB.
     pub address: u64,
-    /// The initial packet sequence number, in 24 bits.
+    /// The initial packet sequence number, in 24 bits. Here it carries the number of the link group, since the
+    /// fabric in memory has no packet sequence.
     pub psn: u32,
 }
 

@@ -8,7 +8,7 @@
 #![tactic(auto)]
 
 ghost use Rattle.std.specs.Prelude.{◌≡◌, ◌≤◌, OnOk, OnErr, not};
-ghost use Rattle.pipe_model.specs.Flows.{FirstContact as FirstContactFlow, NoFlow as NoLinkFlow, begins_add, begins_confirm, begins_delete, begins_drop, begins_test, flow_after, flow_slot, flow_step, is_adding, is_dropping, is_first_contact, lost, named_slot, after_answer, no_flow, on_confirm_rkey, resends_add, resends_key};
+ghost use Rattle.pipe_model.specs.Flows.{FirstContact as FirstContactFlow, NoFlow as NoLinkFlow, begins_add, begins_confirm, begins_delete, begins_drop, begins_test, flow_after, flow_step, is_adding, is_dropping, is_first_contact, lost, named_slot, after_answer, no_flow, on_confirm_rkey, resends_add, resends_key};
 ghost use Rattle.llc_flows.specs.Holds.{add_hold, answer, confirm_hold, delete_hold, test_hold};
 ghost use Rattle.llc_flows.specs.Views.{link_of, request_of};
 
@@ -28,7 +28,7 @@ mod slots;
 
 use crate::client::ClientTable;
 use crate::keys::KeyTable;
-use crate::link::{Link, is_adding, is_first_contact, moved, slot_of};
+use crate::link::{Link, is_adding, is_first_contact, moved};
 use crate::server::ServerTable;
 use crate::slots::{Deletion, MOST};
 use arrayvec::ArrayVec;
@@ -217,13 +217,13 @@ impl Flows {
             FlowStep::Live { .. } | FlowStep::Over => self.link = Link::NoFlow,
             FlowStep::SendKeys => {
                 self.link = Link::KeysSent {
-                    slot: slot_of(self.link),
+                    slot: slot_named(message, landed),
                     on: carrier,
                 };
             }
             FlowStep::AskLink => {
                 self.link = Link::LinkSent {
-                    slot: slot_of(self.link),
+                    slot: slot_named(message, landed),
                 };
             }
             FlowStep::ReplyAdd { .. } => {

@@ -35,6 +35,7 @@ pub const NO_ASYMMETRIC_LINK_NEEDED: u32 = 0x0005_0000;
 
 /// A message between two link group managers. `reply` is set in an answer. Queue pair numbers
 /// (`qp`) and packet sequence numbers (`psn`) have 24 bits, `link` is a link's number in its group.
+/// Here `psn` carries the number of the link group, since the fabric in memory has no packet sequence.
 #[derive(Clone, Copy, Debug, PartialEq, Eq)]
 pub enum LlcMessage {
     /// CONFIRM LINK: `user` is the group's id at the sender, `most` how many links it will have.

@@ -6,7 +6,9 @@ mod GapIsFound
 mod KeyIsAskedAgain
 mod RawClientIsAccepted
 mod FaultyBytesStay
-mod LawfulSteps
+pub mod LawfulSteps
+pub mod Declines
+pub mod KeptCauses
 pub mod Chains
 pub mod Facts
 pub mod Items

@@ -65,22 +65,42 @@ count-is : (size base n : ℕ) → 0 < size → base ≤ n → n < base + 65_536
 count-is size base n some from near =
     ap (λ p. least_from (65_536 * size) base p) (on_circle-is size n some) ∙ least-is (65_536 * size) base n (omega (arith, some)) from near
 
-spelled-read : (size token : ℕ) (taken s : Snapshot) → 0 < size → IsWithin size taken s → read_snapshot size taken (spelled size token s) ≡ s
+-- a number is told but for rounds of the circle
+residue-by : (circle round base q place : ℕ) → round * circle + q ≡ base → place < circle → ((base - q) + ((if nat_lt place q then circle else 0) + place)) % circle ≡ place
+residue-by circle round base q place e inside = by (nat_lt place q)
+  where
+    by : (b : Bool) → ((base - q) + ((if b then circle else 0) + place)) % circle ≡ place
+    by true =
+        let f : (base - q) + (circle + place) ≡ (round + 1) * circle + place = omega (arith, e) in
+        ap (λ n. n % circle) f ∙ mod-mul-add (round + 1) circle place inside
+    by false =
+        let f : (base - q) + (0 + place) ≡ round * circle + place = omega (arith, e) in
+        ap (λ n. n % circle) f ∙ mod-mul-add round circle place inside
+
+pub number-back : (size : ℕ) (m : CdcMessage) (taken s : Snapshot) → Spells size m s → wire_number (read_snapshot size taken m).number ≡ wire_number s.number
+number-back size m taken s e =
+    ap (λ (n : CdcMessage). wire_number (read_snapshot size taken n).number) e
+    ∙ residue-by 65_536 (taken.number / 65_536) taken.number (taken.number % 65_536) (wire_number s.number) (div-add-mod' taken.number 65_536) (mod_below s.number 65_536 (omega arith))
+
+spelled-read : (size token : ℕ) (taken s : Snapshot) → 0 < size → IsWithin size taken s → read_snapshot size taken (spelled size token s) ≡ record s { number = number_from taken.number (wire_number s.number) }
 spelled-read size token taken s some w =
-    let number : number_from taken.number (wire_number s.number) ≡ s.number = least-is 65_536 taken.number s.number (omega arith) w.number w.number_near in
     let told : count_from size (taken.told - size) (cursor_of size s.told) ≡ s.told = count-is size (taken.told - size) s.told some (omega (arith, w.told)) (omega (arith, w.told_near, some)) in
     let read : count_from size taken.read (cursor_of size s.read) ≡ s.read = count-is size taken.read s.read some w.read w.read_near in
     let flags = flags-are s.done s.closed s.aborted in
-    λ i. record { number = number i; told = told i; read = read i; done = flags.0 i; closed = flags.1 i; aborted = flags.2 i }
+    λ i. record { number = number_from taken.number (wire_number s.number); told = told i; read = read i; done = flags.0 i; closed = flags.1 i; aborted = flags.2 i }
 
-pub read-back : (size : ℕ) (m : CdcMessage) (taken s : Snapshot) → 0 < size → Spells size m s → IsWithin size taken s → read_snapshot size taken m ≡ s
-read-back size m taken s some e w = ap (λ n. read_snapshot size taken n) e ∙ spelled-read size m.token taken s some w
+-- all but the number is read back, and the number too where it has not come round
+pub counts-back : (size : ℕ) (m : CdcMessage) (taken s : Snapshot) → 0 < size → Spells size m s → IsWithin size taken s → read_snapshot size taken m ≡ record s { number = number_from taken.number m.number }
+counts-back size m taken s some e w =
+    ap (λ n. read_snapshot size taken n) e ∙ (spelled-read size m.token taken s some w ∙ ap (λ (n : CdcMessage). record s { number = number_from taken.number n.number }) (sym e))
 
--- what is next to land is within the distances from what its taker has taken, where its number is
-within : (size : ℕ) (s : Snapshot) (x y : Half) → 0 < size → MayTake size s y → IsCounted size x y → IsCounted size y x → y.taken.aborted ≡ false → s.number < y.taken.number + 65_536 → IsWithin size y.taken s
-within size s x y some m c d e near = record {
-  number = omega (arith, m.number_rises);
-  number_near = near;
+pub read-back : (size : ℕ) (m : CdcMessage) (taken s : Snapshot) → 0 < size → Spells size m s → IsWithin size taken s → taken.number ≤ s.number → s.number < taken.number + 65_536 → read_snapshot size taken m ≡ s
+read-back size m taken s some e w from near =
+    ap (λ n. read_snapshot size taken n) e ∙ (spelled-read size m.token taken s some w ∙ ap (λ n. record s { number = n }) (least-is 65_536 taken.number s.number (omega arith) from near))
+
+-- what is next to land is within the distances from what its taker has taken
+within : (size : ℕ) (s : Snapshot) (x y : Half) → 0 < size → MayTake size s y → IsCounted size x y → IsCounted size y x → y.taken.aborted ≡ false → IsWithin size y.taken s
+within size s x y some m c d e = record {
   told = m.tells_near;
   told_near = by c.read_told;
   read = m.reads_on;
@@ -95,7 +115,7 @@ other-side : (size : ℕ) (x : Side) (p : Pipe) → IsCounted size (half (other 
 other-side size A p c = c
 other-side size B p c = c
 
-pub next-within : (t : Terms) (x : Side) (items : List Item) (m : Sent) → 0 < t.size → IsFeasible t items → head (to_land (half x (pipe t items))) ≡ Some m → m.check ≡ false → (half (other x) (pipe t items)).taken.aborted ≡ false →
-    m.snapshot.number < (half (other x) (pipe t items)).taken.number + 65_536 → IsWithin t.size (half (other x) (pipe t items)).taken m.snapshot
-next-within t x items m some f e g a near =
-    within t.size m.snapshot (half x (pipe t items)) (half (other x) (pipe t items)) some (lands-well t x items m f e g) (is-counted t x items f) (other-side t.size x (pipe t items) (is-counted t (other x) items f)) a near
+pub next-within : (t : Terms) (x : Side) (items : List Item) (m : Sent) → 0 < t.size → IsFeasible t items → head (to_land (half x (pipe t items))) ≡ Some m → m.check ≡ false → (half (other x) (pipe t items)).taken.aborted ≡ false
+    → IsWithin t.size (half (other x) (pipe t items)).taken m.snapshot
+next-within t x items m some f e g a =
+    within t.size m.snapshot (half x (pipe t items)) (half (other x) (pipe t items)) some (lands-well t x items m f e g) (is-counted t x items f) (other-side t.size x (pipe t items) (is-counted t (other x) items f)) a

@@ -7,6 +7,7 @@ use Rattle.pipe_model.specs.declared.event.Event.TheVariants.{Open, Clc, Write, 
 
 -- sockets are below their number, the slot is the one that is built, and the bytes lie in a payload
 -- of so many; no other event is built
+-- ours: what an actor must keep to
 abbrev pub Fits : Setup → ℕ → Event → Type 0
 Fits setup payload (Open s) = s < setup.sockets
 Fits setup payload (Clc s dir) = s < setup.sockets

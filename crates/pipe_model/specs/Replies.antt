@@ -41,6 +41,7 @@ use Rattle.pipe_model.specs.Fallback.{Front, NoMessage, Faulty, Whole, front, is
 use Rattle.pipe_model.specs.Posts.{peer_of, trimmed}
 
 -- the two rows that begin a socket
+-- ours: what the application is told
 abbrev pub open_told : Setup → ℕ → List Entry → Reply
 open_told setup s past =
     let a : Bool = slice_index_or setup.capable 0 false in
@@ -49,14 +50,17 @@ open_told setup s past =
     if not (a && b) then Declined (NotCapable a b) else Opened
 
 -- what raw bytes are told, by the room
+-- ours: what the application is told
 abbrev pub raw_room : ℕ → ℕ → Reply
 raw_room room len = if not (len == 0) && (room == 0) then Full else Wrote (min len room)
 
 -- what raw bytes are told
+-- ours: what the application is told
 abbrev pub raw_told : List ℕ → ℕ → ℕ → List Entry → Reply
 raw_told payload s len past = if is_opened s past then NameUsed else raw_room (stream_room - length (stream payload A s past)) len
 
 -- a call of an end, by what the end is
+-- ours: what the application is told
 abbrev pub fallen_told : Call → Queues → Option ResetCause → Told
 fallen_told call q None = queue_told call q
 fallen_told Awaits q (Some cause) = Plain Done
@@ -64,18 +68,21 @@ fallen_told Moves q (Some cause) = Plain Idle
 fallen_told call q (Some cause) = Plain (Reset cause)
 
 -- a call on an end that waits
+-- ours: what the application is told
 abbrev pub waiting_told : Call → Reply
 waiting_told Awaits = Idle
 waiting_told Moves = Idle
 waiting_told call = NotYet
 
 -- a call on an end that was reset before it was established
+-- ours: what the application is told
 abbrev pub lost_told : ResetCause → Call → Reply
 lost_told cause Awaits = Done
 lost_told cause Moves = Idle
 lost_told cause call = Reset cause
 
 -- a call by the state of the end
+-- ours: what the application is told
 abbrev pub end_told : Setup → List ℕ → EndName → Call → List Entry → EndState → Told
 end_told setup payload end call past NoEnd = Plain NoSocket
 end_told setup payload end call past IsUp = pipe_told (terms_of setup) end.side call (pipe_of setup payload (group_on end.s past) end.s past)
@@ -84,10 +91,12 @@ end_told setup payload end call past (WasReset cause) = Plain (lost_told cause c
 end_told setup payload end call past _ = Plain (waiting_told call)
 
 -- what a call is told
+-- ours: what the application is told
 abbrev pub call_told : Setup → List ℕ → EndName → Call → List Entry → Told
 call_told setup payload end call past = end_told setup payload end call past (end_state end.side end.s past)
 
 -- whether an end waits for a CLC message
+-- RFC 7609, 3.5
 abbrev pub expects : EndState → Bool
 expects WaitsProposal = true
 expects WaitsAnswer = true
@@ -95,11 +104,13 @@ expects WaitsConfirm = true
 expects _ = false
 
 -- what a verdict is told
+-- ours: what the actor is told
 abbrev pub ready_told : ClcMessage → Reply
 ready_told (ConfirmMessage o) = if o.first then Sent LinkSent else Established
 ready_told m = Idle
 
 -- the reply to a verdict
+-- ours: what the actor is told
 abbrev pub step_told : ℕ → ClcMessage → ClcStep → Reply
 step_told group m (SendAccept first) = Sent AcceptSent
 step_told group m (SendConfirm true) = Sent ConfirmSent
@@ -113,55 +124,67 @@ step_told group m Lost = Reset (NoLiveLink group)
 step_told group m (Wrong kind) = Reset (BadStep kind)
 
 -- the verdict on a message after a history
+-- RFC 7609, 3.5
 abbrev pub clc_step : Setup → List ℕ → Side → ℕ → ClcMessage → List Entry → ClcStep
 clc_step setup payload x s m past = verdict (is_raw s past) (end_state x s past) m (lacks setup payload x past)
 
 -- what a Clc event is told, by what stands at the front
+-- ours: what the actor is told
 abbrev pub front_told : Setup → List ℕ → Side → ℕ → List Entry → Front → Reply
 front_told setup payload x s past NoMessage = Idle
 front_told setup payload x s past (Faulty fault) = Reset (BadClc fault)
 front_told setup payload x s past (Whole m len) = step_told (group_on s past) m (clc_step setup payload x s m past)
 
 -- what a Clc event is told
+-- ours: what the actor is told
 abbrev pub clc_told : Setup → List ℕ → ℕ → Side → List Entry → Reply
 clc_told setup payload s dir past = if expects (end_state (other dir) s past) then front_told setup payload (other dir) s past (front payload dir s past) else Idle
 
 -- a CDC message is dropped where its token names no record
+-- ours: a message that names no lending has nothing to change
 abbrev pub lands_told : Setup → List ℕ → Side → List Entry → Placed → Post → Reply
 lands_told setup payload x past c (Cdc from link m) = if is_some (record_of setup payload x m.token past) then Landed c.at else Dropped m.token
 lands_told setup payload x past c post = Landed c.at
 
 -- what a Deliver is told, by what would land
+-- ours: what the actor is told
 abbrev pub deliver_told : Setup → List ℕ → Side → List Entry → Option Placed → Reply
 deliver_told setup payload x past None = Idle
 deliver_told setup payload x past (Some c) = lands_told setup payload x past c c.post
 
 -- a report of a link that stands at the side and is dead
+-- ours: what the actor is told
 abbrev pub lost_link_told : ℕ → Peer → Reply
 lost_link_told k p = if (loses k p).group == 0 then GroupEnded p.group else Done
 
 -- whether a link stands at the side on a slot
+-- ours: a look-up
 abbrev pub standing_at : ℕ → List Known → Bool
 standing_at k table = is_standing (phase_at k table)
 
 -- whether the link that the side knows there is dead
+-- ours: a look-up
 abbrev pub dead_at : ℕ → List Known → List Entry → Bool
 dead_at k table past = passes (λ link. is_dead link past) (link_at k table)
 
 -- what a Report is told
+-- ours: what the actor is told
 abbrev pub report_told : Side → ℕ → List Entry → Reply
 report_told x k past = if standing_at k (table_of x past) && dead_at k (table_of x past) past then lost_link_told k (peer_of x past) else Idle
 
 -- the lowest slot with its path up on which no link stands at B
+-- ours: the RFC leaves open where a link is added
 abbrev pub open_slots : Setup → List Entry → List ℕ
 open_slots setup past = filter (λ k. path_up k past && not (standing_at k (table_of B past))) (up_to setup.links)
 
 -- what Grow is told, by the slot
+-- ours: what the actor is told; the holds are ours
 abbrev pub grow_to : Option ℕ → Reply
 grow_to None = Idle
 grow_to (Some k) = Sent AddLinkSent
 
 -- what Grow is told
+-- ours: what the actor is told; the holds are ours
 abbrev pub grow_told : Setup → List Entry → Reply
 grow_told setup past = let f : Flow = flow_of B past in
     if group_of B past == 0 then Idle else
@@ -171,18 +194,21 @@ grow_told setup past = let f : Flow = flow_of B past in
     if is_deleting f.key then Held DeleteRkeyHold else grow_to (head (open_slots setup past))
 
 -- what a Test is told
+-- ours: what the actor is told; the holds are ours
 abbrev pub test_told : Side → ℕ → List Entry → Reply
 test_told x k past =
     if not (is_live (phase_at k (table_of x past))) then Idle else
     if has k (flow_of x past).tests then Held TestLinkHold else Sent TestSent
 
 -- whether a key flow keeps RMBs from being trimmed
+-- ours: a word on flows
 abbrev pub is_asking_or_waiting : KeyPhase → Bool
 is_asking_or_waiting Asked = true
 is_asking_or_waiting Retry = true
 is_asking_or_waiting _ = false
 
 -- what a Trim is told
+-- ours: what the actor is told; the holds are ours
 abbrev pub trim_told : Setup → List ℕ → Side → List Entry → Reply
 trim_told setup payload x past = let f : Flow = flow_of x past in
     if group_of x past == 0 then Idle else
@@ -193,6 +219,7 @@ trim_told setup payload x past = let f : Flow = flow_of x past in
     if is_nil (trimmed setup payload x past) then Idle else Sent DeleteSent
 
 -- what an event is told after a history
+-- ours: a case for each event
 abbrev pub told : Setup → List ℕ → List Entry → Event → Told
 told setup payload past (Open s) = Plain (open_told setup s past)
 told setup payload past (Raw s at len) = Plain (raw_told payload s len past)

@@ -30,7 +30,8 @@ pub use entry::{Entry, StepFault};
 pub use event::{End, Event};
 pub use flow::{FlowStep, KeyPhase, LinkView};
 pub use laws::{
-    calls_are_told_by_the_pipe, each_entry_is_a_lawful_step, equal_parts_are_told_the_same,
+    a_kept_cause_stays, a_lack_is_named_only_where_it_holds, calls_are_told_by_the_pipe,
+    each_entry_is_a_lawful_step, equal_parts_are_told_the_same, near_parts_are_claimed_whole,
 };
 pub use llc_wire::{KeyToken, LlcMessage, NewKey};
 pub use pipe_laws::{

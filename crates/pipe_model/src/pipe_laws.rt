@@ -5,10 +5,11 @@ ghost use Rattle.std.specs.Prelude.{◌≡◌, ℕ, ◌+◌, ◌-◌, ◌<◌, �
 ghost use Rattle.smc_num.specs.declared.Side.{Side as Peer};
 ghost use Rattle.smc_num.specs.declared.Side.TheVariants.{A, B};
 ghost use Rattle.smc_num.specs.Names.{other, head};
+ghost use Rattle.smc_num.specs.Numbers.{wire_number};
 ghost use Rattle.cdc_wire.specs.declared.CdcMessage.{CdcMessage as Message};
 ghost use Rattle.pipe_model.specs.declared.snapshot.Snapshot.{Snapshot as Shot};
 ghost use Rattle.pipe_model.specs.Snapshot.{Spells, shows_gap, is_near};
-ghost use Rattle.pipe_model.specs.Spelling.{IsWithin, read_snapshot};
+ghost use Rattle.pipe_model.specs.Spelling.{IsWithin, number_from, read_snapshot};
 ghost use Rattle.pipe_model.specs.Ends.{Sent, is_over, to_land, to_complete};
 ghost use Rattle.pipe_model.specs.Pipe.{Terms, Item, Lands, half, pipe, is_near_part};
 ghost use Rattle.pipe_model.specs.Parts.{IsFeasible, HasToldLast, has_swallow, covered, is_shut, EachOf, IsCounted, IsMarked, IsFlying, IsSettled, MayTake, ClosesBehindAll, ReadsTold, CarriesFew, EndsWithLast, HasAllTold, GoesOn};
@@ -121,18 +122,22 @@ pub fn the_next_bytes_go_on()
 {}
 
 /// A message that spells a snapshot is read back as it by an end that has taken one within the
-/// distances.
+/// distances, all but its number, of which 16 bits are told; and whole where the number has moved on
+/// by less than these need to come round.
 pub fn reads_back()
-    ensures { (size : ℕ) (m : Message) (taken s : Shot) → 0 < size → Spells size m s → IsWithin size taken s
-        → read_snapshot size taken m ≡ s }
+    ensures counts { (size : ℕ) (m : Message) (taken s : Shot) → 0 < size → Spells size m s → IsWithin size taken s
+        → read_snapshot size taken m ≡ record s { number = number_from taken.number m.number } }
+    ensures number { (size : ℕ) (m : Message) (taken s : Shot) → Spells size m s
+        → wire_number (read_snapshot size taken m).number ≡ wire_number s.number }
+    ensures whole { (size : ℕ) (m : Message) (taken s : Shot) → 0 < size → Spells size m s → IsWithin size taken s
+        → taken.number ≤ s.number → s.number < taken.number + 65_536 → read_snapshot size taken m ≡ s }
 {}
 
-/// A snapshot that is next to land is within the distances from what its taker has taken, where the
-/// number is, unless the taker has taken that its peer was reset.
+/// A snapshot that is next to land is within the distances from what its taker has taken, unless the
+/// taker has taken that its peer was reset.
 pub fn the_next_snapshot_is_within_the_distances()
     ensures { (t : Terms) (x : Peer) (items : List Item) (m : Sent) → 0 < t.size → IsFeasible t items
         → head (to_land (half x (pipe t items))) ≡ Some m → m.check ≡ false
         → (half (other x) (pipe t items)).taken.aborted ≡ false
-        → m.snapshot.number < (half (other x) (pipe t items)).taken.number + 65_536
         → IsWithin t.size (half (other x) (pipe t items)).taken m.snapshot }
 {}

@@ -32,9 +32,9 @@ impl Default for Setup {
         Setup {
             capable: [true, true],
             subnet: [(0x0a00_0000, 24), (0x0a00_0000, 24)],
-            links: 1,
+            links: 2,
             size_code: 0,
-            rmbs: [1, 1],
+            rmbs: [2, 2],
             elements: [4, 4],
             depth: 1,
             number: 1,

@@ -95,6 +95,7 @@ pub(crate) fn offer(
         size: setup.size_code,
         mtu: MTU,
         address: rmb_address(place.0),
+        // The initial packet sequence number carries the group: the fabric in memory has no packet sequence.
         psn: link.group,
     }
 }

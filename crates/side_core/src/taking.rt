@@ -74,7 +74,7 @@ fn ready_told(message: &ClcMessage) -> Reply
     }
 }
 
-/// The group that an offer names.
+/// The group that an offer names: its packet sequence number carries it.
 fn named_group(message: &ClcMessage) -> u32
     ensures { result ≡ named_group message.now }
 {

@@ -16,7 +16,8 @@ use Rattle.world_core.proofs.LastingLendings.{has_fallen, lendings-last}
 use Rattle.world_core.proofs.QuietEvents.{by-side, entry-of}
 use Rattle.world_core.specs.Managers.{HasLendings}
 use Rattle.world_core.specs.OneLink.{Stage}
-use Rattle.world_core.specs.Played.{IsBuilt, IsOneLink, IsPlayed}
+use Rattle.pipe_model.specs.Fits.{Fits}
+use Rattle.world_core.specs.Played.{IsOneLink, IsPlayed}
 use Rattle.pipe_model.specs.declared.reply.Lack.TheVariants.{NotCapable}
 use Rattle.world_core.specs.Sockets.{Socket, Unopened, StandsAt, IsWorld, suits, offered_at, opened_at, end_at, untaken_at}
 use Rattle.pipe_model.specs.declared.event.Event.{Event}
@@ -116,7 +117,7 @@ module _ (setup : Setup) (one : IsOneLink setup) (payload : List ℕ) (past : Li
       let h = w.sockets s in
       clc-by v.stage v.world s dir reply p h.at h.stands h.suits_is (expects (end_at h.at (other dir))) refl (head (untaken_at setup h.at dir)) refl
 
-  by-event : (event : Event) (reply : Reply) → IsBuilt setup (length payload) event → Plays event reply → Goal event reply
+  by-event : (event : Event) (reply : Reply) → Fits setup (length payload) event → Plays event reply → Goal event reply
   by-event (Clc s dir) reply b p = on-clc s dir reply p
   by-event (Open s) reply b p = lasts (Open s) reply refl p (by-side (λ x. (t : ℕ) → leaves_handshake x t (Open s) reply ≡ false) (λ t. refl) (λ t. refl)) (on-open s reply p)
   by-event (Write end at len) reply b p = lasts (Write end at len) reply refl p (by-side (λ x. (t : ℕ) → leaves_handshake x t (Write end at len) reply ≡ false) (λ t. refl) (λ t. refl))

@@ -32,7 +32,7 @@ use Rattle.pipe_model.specs.Fallback.{Front, NoMessage, Faulty, Whole, front, is
 use Rattle.pipe_model.specs.Posts.{new_offer, clc_posts, ready_posts, first_link, fewest}
 use Rattle.pipe_model.specs.Replies.{clc_step}
 use Rattle.pipe_model.specs.Lawful.{front_posts, act_posts, asked}
-use Rattle.world_core.specs.Played.{IsBuilt}
+use Rattle.pipe_model.specs.Fits.{Fits}
 use Rattle.world_core.specs.OneLink.{Stage, NoLink, Begun, Made, Asking, LiveAtA, LiveAtBoth, is_made, llc_of, the_link}
 use Rattle.world_core.specs.Sockets.{Socket, FirstAccepted, StandsAt, end_at, IsWorld}
 use Rattle.world_core.specs.WireSteps.{EachPost}
@@ -206,7 +206,7 @@ module _ (setup : Setup) (stage : Stage) (past : List Entry) (world : IsWorld se
       by false e = found (landing 1 dir past) (inl (lands-unmade setup stage past dir world.link e))
 
 -- what handshake and flows post with an event that is built
-pub asked-few : (setup : Setup) (payload : List ℕ) (stage : Stage) (past : List Entry) → IsWorld setup stage past → (event : Event) (reply : Reply) → IsBuilt setup (length payload) event → AreFew setup.sockets (acting_side event) (asked setup payload past event reply)
+pub asked-few : (setup : Setup) (payload : List ℕ) (stage : Stage) (past : List Entry) → IsWorld setup stage past → (event : Event) (reply : Reply) → Fits setup (length payload) event → AreFew setup.sockets (acting_side event) (asked setup payload past event reply)
 asked-few setup payload stage past w (Open s) Opened b = few-one setup.sockets A _ (refl, b)
 asked-few setup payload stage past w (Open s) _ b = few-none setup.sockets A
 asked-few setup payload stage past w (ClcEvent t dir) reply b =

@@ -30,7 +30,7 @@ use Rattle.pipe_model.specs.Keys.{Keys, keys_of}
 use Rattle.pipe_model.specs.Posts.{clc_posts, ready_posts, step_posts, loss_posts, drop_posts, key_again, add_again, peer_of, deleting_rmbs}
 use Rattle.pipe_model.specs.Replies.{clc_step}
 use Rattle.pipe_model.specs.Lawful.{front_posts, act_posts, asked}
-use Rattle.world_core.specs.Played.{IsBuilt}
+use Rattle.pipe_model.specs.Fits.{Fits}
 use Rattle.world_core.specs.Wired.{cdc_under}
 use Rattle.world_core.specs.WireSteps.{IsCdcOn, EachPost}
 
@@ -102,10 +102,10 @@ of-add x p ks qp (LinkSent k) = tt
 of-add x p ks qp (Abandoned on) = tt
 of-add x p ks qp (AddSeen k) = tt
 
-of-loss : (x : Side) (k : ℕ) (own : Bool) (p : Peer) (before : Flow) (past : List Entry) → EachPost IsLlc (loss_posts x k own p before past)
-of-loss x k own p before past = either-llc (p.group == 0) _ _ tt
-    (append-llc (drop_posts x k own p ++ (if resends_key k before then key_again x p (keys_of x past).keys (deleting_rmbs x past) before.key ∷ [] else [])) _
-    (append-llc (drop_posts x k own p) _ (either-llc (own && not (is_dropping k p.flow)) _ _ (tt, tt) tt) (either-llc (resends_key k before) _ _ (of-key x p (keys_of x past).keys (deleting_rmbs x past) before.key, tt) tt))
+of-loss : (setup : Setup) (x : Side) (k : ℕ) (own : Bool) (p : Peer) (before : Flow) (past : List Entry) → EachPost IsLlc (loss_posts setup x k own p before past)
+of-loss setup x k own p before past = either-llc (p.group == 0) _ _ tt
+    (append-llc (drop_posts x k own p ++ (if resends_key k before then key_again x p (keys_of x past).keys (deleting_rmbs setup x past) before.key ∷ [] else [])) _
+    (append-llc (drop_posts x k own p) _ (either-llc (own && not (is_dropping k p.flow)) _ _ (tt, tt) tt) (either-llc (resends_key k before) _ _ (of-key x p (keys_of x past).keys (deleting_rmbs setup x past) before.key, tt) tt))
     (either-llc (resends_add k before.link) _ _ (of-add x p (keys_of x past) _ before.link) tt))
 
 of-step : (setup : Setup) (x : Side) (on : LinkId) (m : LlcMessage) (past : List Entry) (step : FlowStep) → EachPost IsLlc (step_posts setup x on m past step)
@@ -125,7 +125,7 @@ of-step setup x on m past Withdraw = tt
 of-step setup x on m past ReplyRetry = (tt, tt)
 of-step setup x on m past Learn = (tt, tt)
 of-step setup x on m past Forget = (tt, tt)
-of-step setup x on m past (Gone report) = (tt, either-llc report _ _ (of-loss x (named_slot m on.slot) false (loses (named_slot m on.slot) (peer_of x past)) (flow_of x past) past) tt)
+of-step setup x on m past (Gone report) = (tt, either-llc report _ _ (of-loss setup x (named_slot m on.slot) false (loses (named_slot m on.slot) (peer_of x past)) (flow_of x past) past) tt)
 of-step setup x on m past Answered = tt
 of-step setup x on m past Echo = (tt, tt)
 
@@ -134,7 +134,7 @@ of-act setup x past None = tt
 of-act setup x past (Some act) = of-step setup x act.link act.message past act.step
 
 -- what an event that is built makes handshake and flows post
-pub asked-control : (setup : Setup) (payload : List ℕ) (past : List Entry) (event : Event) (reply : Reply) → IsBuilt setup (length payload) event → EachPost IsControl (asked setup payload past event reply)
+pub asked-control : (setup : Setup) (payload : List ℕ) (past : List Entry) (event : Event) (reply : Reply) → Fits setup (length payload) event → EachPost IsControl (asked setup payload past event reply)
 asked-control setup payload past (Open s) Opened b = (tt, tt)
 asked-control setup payload past (Open s) _ b = tt
 asked-control setup payload past (ClcEvent s dir) Idle b = tt

@@ -22,7 +22,8 @@ use Rattle.side_core.specs.Acting.{IsSoundAt, acts_at, call_of, due_at}
 use Rattle.side_core.specs.Manager.{Manager, StandsFor, state_at}
 use Rattle.world_core.specs.declared.host.Host.{Host}
 use Rattle.world_core.specs.OneLink.{the_link}
-use Rattle.world_core.specs.Played.{IsBuilt, IsPlayed, handed}
+use Rattle.pipe_model.specs.Fits.{Fits}
+use Rattle.world_core.specs.Played.{IsPlayed, handed}
 use Rattle.world_core.specs.Steps.{entry_of}
 use Rattle.world_core.specs.Landed.{buffer_of}
 use Rattle.world_core.specs.WireSteps.{landing_now}
@@ -42,7 +43,7 @@ pub record IsCall (event : Event) : Type 0 where
   pub moves_none : (y : Side) (w : Queues) → moved y event w ≡ w
 
 module _ (setup : Setup) (payload : List ℕ) (past : List Entry) (heard : ℕ) (event : Event) (own theirs : Host)
-    (hosts : AreHostsAfter setup payload past heard (acting_side event) own theirs) (few : length past < 2 ^ 18) (built : IsBuilt setup (length payload) event) where
+    (hosts : AreHostsAfter setup payload past heard (acting_side event) own theirs) (few : length past < 2 ^ 18) (built : Fits setup (length payload) event) where
   abbrev pub X : Side
   X = acting_side event
 

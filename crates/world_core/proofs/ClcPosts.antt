@@ -37,7 +37,8 @@ use Rattle.pipe_model.specs.Messages.{proposal, refusal}
 use Rattle.pipe_model.specs.Posts.{clc_posts, new_offer, connection_posts}
 use Rattle.pipe_model.specs.Replies.{clc_step, open_told, told}
 use Rattle.pipe_model.specs.Lawful.{asked, draft, front_posts, reply_of}
-use Rattle.world_core.specs.Played.{IsBuilt, IsMade, IsOneLink, IsPlayed}
+use Rattle.pipe_model.specs.Fits.{Fits}
+use Rattle.world_core.specs.Played.{IsMade, IsOneLink, IsPlayed}
 use Rattle.world_core.specs.Sockets.{Accepted, AcceptFallen, AcceptRefused, AwaitsLink, Confirmed, Fallen, FirstAccepted, FirstConfirmed, FirstUp, FirstUpAtA, HasWorld, IsWorld, Proposed, Refused, Socket, StandsAt, Unopened, Up, end_at, offered_at, opened_at, untaken_at}
 use Rattle.world_core.specs.OneLink.{Stage}
 use Rattle.world_core.specs.Sending.{acting_side, puts_all}
@@ -302,7 +303,7 @@ append [] qs p q = q
 append (post ∷ ps) qs p q = (p.0, append ps qs p.1 q)
 
 -- whatever event
-asks : (setup : Setup) (payload : List ℕ) (past : List Entry) (stage : Stage) (before : ℕ) (event : Event) (reply : Reply) → IsBuilt setup (length payload) event → IsWorld setup stage past
+asks : (setup : Setup) (payload : List ℕ) (past : List Entry) (stage : Stage) (before : ℕ) (event : Event) (reply : Reply) → Fits setup (length payload) event → IsWorld setup stage past
     → reply ≡ reply_of before (told setup payload past event) → Asks setup payload past (acting_side event) (asked setup payload past event reply)
 asks setup payload past stage before (Open t) reply built w r = let h = w.sockets t in opens-asks setup payload past t built h.at reply h.stands r
 asks setup payload past stage before (ClcEvent t dir) reply built w r = let h = w.sockets t in takes-asks setup payload past t built h.at dir reply h.stands
@@ -382,7 +383,7 @@ no-clc-posts setup one payload e past n p none = by_event e.event refl
     by_event (Deliver slot dir) is = with_more (Deliver slot dir) is (llc-no-clc _ (of-act setup (other dir) past (act_of (other dir) (option_map (λ c. c.post) (landing slot dir past)) past)))
     by_event (Open s) is = let h : true ≡ false = sym (ap may_post_clc is) ∙ none in cc
     by_event (ClcEvent s dir) is = let h : true ≡ false = sym (ap may_post_clc is) ∙ none in cc
-    by_event event is = absurd (subst (IsBuilt setup (length payload)) is made.built)
+    by_event event is = absurd (subst (Fits setup (length payload)) is made.built)
 
 -- what an entry posts for a side on a socket: nothing, or one message of the side that acts
 pub data News (setup : Setup) (payload : List ℕ) (e : Entry) (past : List Entry) (x : Side) (s : ℕ) : Type 0 where

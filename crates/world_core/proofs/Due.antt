@@ -19,7 +19,8 @@ use Rattle.pipe_model.specs.Connections.{fates, comes_up, is_up, deeds, items, p
 use Rattle.pipe_model.specs.Lending.{terms_of}
 use Rattle.pipe_model.specs.Posts.{sent_posts, end_posts, connection_posts}
 use Rattle.pipe_model.specs.Lawful.{draft}
-use Rattle.world_core.specs.Played.{IsBuilt, IsMade, IsPlayed}
+use Rattle.pipe_model.specs.Fits.{Fits}
+use Rattle.world_core.specs.Played.{IsMade, IsPlayed}
 use Rattle.world_core.specs.Wired.{EachItem, keeps_open}
 use Rattle.world_core.specs.Due.{due_of, acts_at, due_posts, PostsDue}
 use Rattle.world_core.specs.Agreement.{IsOnlyLink, HasOffers, GoesOn, IsShaken, IsCalm}
@@ -108,7 +109,7 @@ module _ (setup : Setup) (payload : List ℕ) (e : Entry) (past : List Entry) (b
   idle-not x item ds p f a = let q = subst (λ is. EachItem (λ i. not (acts_at x i)) is) f p in true≢false (sym q.0 ∙ ap (λ b. not b) a)
 
   -- no end comes up with a call or a completion
-  none-by : (x y : Side) (s : ℕ) (item : Item) (event : Event) → e.event ≡ event → IsBuilt setup (length payload) event → deeds payload s event e.reply past ≡ item ∷ [] → acts_at x item ≡ true → comes_by y s event e.reply past ≡ None
+  none-by : (x y : Side) (s : ℕ) (item : Item) (event : Event) → e.event ≡ event → Fits setup (length payload) event → deeds payload s event e.reply past ≡ item ∷ [] → acts_at x item ≡ true → comes_by y s event e.reply past ≡ None
   none-by x y s item (Open t) v b d a = absurd (not-empty item [] refl d)
   none-by x y s item (Clc t dir) v b d a = absurd (not-empty item [] refl d)
   none-by x A s item (Write end at len) v b d a = refl

@@ -19,7 +19,7 @@ use Rattle.pipe_model.specs.Fabric.{Fabric, fabric, peer, act_by, table_of, grou
 use Rattle.pipe_model.specs.History.{offered}
 use Rattle.pipe_model.specs.Pipe.{Item, Fate, GroupEnd, Up, Calls, Lands, Completes}
 use Rattle.pipe_model.specs.Connections.{is_fate, phase_of, fate_of, fates, group_end, ups, up_by, confirmed_by, comes_up, deeds, items, landed_at, completed_at}
-use Rattle.world_core.specs.Played.{IsBuilt}
+use Rattle.pipe_model.specs.Fits.{Fits}
 use Rattle.world_core.specs.OneLink.{the_link}
 use Rattle.world_core.specs.Wired.{EachItem, EachUpOn, passes_by, keeps_open}
 use Rattle.world_core.specs.Agreement.{GoesOn}
@@ -127,7 +127,7 @@ below-calm group s e past g =
     (each-append is_fate_or_up (reverse (ups A s e past ++ ups B s e past)) (reverse (fates A group e past ++ fates B group e past)) (each-reverse is_fate_or_up (ups A s e past ++ ups B s e past) u) (each-reverse is_fate_or_up (fates A group e past ++ fates B group e past) f))
 
 -- what an event that is built makes an end do leaves both open
-pub deeds-open : (setup : Setup) (payload : List ℕ) (s : ℕ) (event : Event) (reply : Reply) (past : List Entry) → IsBuilt setup (length payload) event → EachItem keeps_open (deeds payload s event reply past)
+pub deeds-open : (setup : Setup) (payload : List ℕ) (s : ℕ) (event : Event) (reply : Reply) (past : List Entry) → Fits setup (length payload) event → EachItem keeps_open (deeds payload s event reply past)
 deeds-open setup payload s (Open t) reply past b = tt
 deeds-open setup payload s (Clc t dir) reply past b = tt
 deeds-open setup payload s (Write end at len) reply past b = call-items keeps_open end (Writes (take len (drop at payload))) s past refl
@@ -185,7 +185,7 @@ below-on group s e past g =
     (on-ups A B the_link (comes_up A s e past) (comes_up B s e past) (λ l q. let u = g.ups A s l q in u.0) (λ l q. let u = g.ups B s l q in u.0))
     (on-none the_link (reverse (fates A group e past ++ fates B group e past)) (fates-no-up group e past)))
 
-pub deeds-no-up : (setup : Setup) (payload : List ℕ) (s : ℕ) (event : Event) (reply : Reply) (past : List Entry) → IsBuilt setup (length payload) event → EachItem is_no_up (deeds payload s event reply past)
+pub deeds-no-up : (setup : Setup) (payload : List ℕ) (s : ℕ) (event : Event) (reply : Reply) (past : List Entry) → Fits setup (length payload) event → EachItem is_no_up (deeds payload s event reply past)
 deeds-no-up setup payload s (Open t) reply past b = tt
 deeds-no-up setup payload s (Clc t dir) reply past b = tt
 deeds-no-up setup payload s (Write end at len) reply past b = call-items is_no_up end (Writes (take len (drop at payload))) s past refl
@@ -201,12 +201,12 @@ from-left ds us gs fs = ap (λ is. is ++ fs) (append_assoc ds us gs) ∙ append_
 pub items-are : (payload : List ℕ) (group s : ℕ) (e : Entry) (past : List Entry) → items payload group s e past ≡ deeds payload s e.event e.reply past ++ below group s e past
 items-are payload group s e past = from-left (deeds payload s e.event e.reply past) (reverse (ups A s e past ++ ups B s e past)) (reverse (group_end A group e past ++ group_end B group e past)) (reverse (fates A group e past ++ fates B group e past))
 
-pub items-open : (setup : Setup) (payload : List ℕ) (group s : ℕ) (e : Entry) (past : List Entry) → IsBuilt setup (length payload) e.event → GoesOn e past → EachItem keeps_open (items payload group s e past)
+pub items-open : (setup : Setup) (payload : List ℕ) (group s : ℕ) (e : Entry) (past : List Entry) → Fits setup (length payload) e.event → GoesOn e past → EachItem keeps_open (items payload group s e past)
 items-open setup payload group s e past b g = subst (λ is. EachItem keeps_open is) (sym (items-are payload group s e past))
     (each-append keeps_open (deeds payload s e.event e.reply past) (below group s e past) (deeds-open setup payload s e.event e.reply past b)
     (each-more is_fate_or_up keeps_open fate-or-up-open (below group s e past) (below-calm group s e past g)))
 
-pub items-on : (setup : Setup) (payload : List ℕ) (group s : ℕ) (e : Entry) (past : List Entry) → IsBuilt setup (length payload) e.event → GoesOn e past → EachUpOn the_link (items payload group s e past)
+pub items-on : (setup : Setup) (payload : List ℕ) (group s : ℕ) (e : Entry) (past : List Entry) → Fits setup (length payload) e.event → GoesOn e past → EachUpOn the_link (items payload group s e past)
 items-on setup payload group s e past b g = subst (λ is. EachUpOn the_link is) (sym (items-are payload group s e past))
     (on-append the_link (deeds payload s e.event e.reply past) (below group s e past) (on-none the_link (deeds payload s e.event e.reply past) (deeds-no-up setup payload s e.event e.reply past b)) (below-on group s e past g))
 

@@ -26,7 +26,8 @@ use Rattle.world_core.proofs.Own.{Is, IsNot, IsOrNot, is-or-not, own-none, own-s
 use Rattle.world_core.proofs.Places.{first-stands, uncompleted-stand, unlanded-stand}
 use Rattle.world_core.proofs.QuietEvents.{by-side}
 use Rattle.world_core.specs.OneLink.{Asking, Begun, LiveAtA, LiveAtBoth, Made, NoLink, Stage, fabric_at, the_known, the_link}
-use Rattle.world_core.specs.Played.{IsBuilt, IsOneLink, IsPlayed}
+use Rattle.pipe_model.specs.Fits.{Fits}
+use Rattle.world_core.specs.Played.{IsOneLink, IsPlayed}
 use Rattle.world_core.specs.Sockets.{FirstUp, FirstUpAtA, HasWorld, IsWorld, Socket, first_step, is_unoffered, suits, up_at}
 use Rattle.world_core.specs.WireSteps.{CompletesNow, LandsNow, Way}
 use Rattle.pipe_model.specs.declared.event.End.{End}
@@ -187,7 +188,7 @@ module _ (setup : Setup) (payload : List ℕ) (s : ℕ) (past : List Entry) (dow
   no-call : (end : End) (b : Bool) (items : List Item) → (if b && is_up end.side s past then items else []) ≡ []
   no-call end b items = if-false (b && is_up end.side s past) items [] (ap (λ u. b && u) (down end.side) ∙ and-false b)
 
-  stays-none : (event : Event) (reply : Reply) → IsBuilt setup (length payload) event → EachItem (passes_by A) (deeds payload s event reply past) → EachItem (passes_by B) (deeds payload s event reply past) → deeds payload s event reply past ≡ []
+  stays-none : (event : Event) (reply : Reply) → Fits setup (length payload) event → EachItem (passes_by A) (deeds payload s event reply past) → EachItem (passes_by B) (deeds payload s event reply past) → deeds payload s event reply past ≡ []
   stays-none (Write end at len) reply b p q = no-call end (s == end.s) (Calls end.side (Writes (take len (drop at payload))) ∷ [])
   stays-none (Read end len) reply b p q = no-call end (s == end.s) (Calls end.side (Reads len) ∷ [])
   stays-none (Open r) reply b p q = refl

@@ -1,6 +1,7 @@
 -- Each write that lands is home: its key is bound to the one RMB, and its range lies in an element that is lent to its connection.
 use Rattle.std.proofs.Common.{◌≡◌, ◌∙◌, ◌==◌, ◌⊎◌, inl, inr, ℕ, Bool, true, false, if◌then◌else◌, List, [], ◌∷◌, length, refl, ap, sym, subst, arith, suc}
-use Rattle.std.specs.Prelude.{find, Option, Some, None, is_some, cond, Contains, IfSome}
+use Rattle.std.specs.Prelude.{find, Option, Some, None, is_some, cond, Contains}
+use Rattle.std.specs.Option.{IsSomeAnd}
 use Rattle.smc_num.specs.declared.Side.{Side}
 use Rattle.smc_num.specs.declared.Side.TheVariants.{A, B}
 use Rattle.smc_num.specs.declared.LinkId.{LinkId}
@@ -26,7 +27,8 @@ use Rattle.pipe_model.specs.Fallback.{is_fallen, is_fallen_state}
 use Rattle.pipe_model.specs.Replies.{told, deliver_told, lands_told}
 use Rattle.pipe_model.specs.Home.{following_cdc, IsHome, PostIsHome, LandsHome}
 use Rattle.pipe_model.specs.Lawful.{reply_of}
-use Rattle.world_core.specs.Played.{IsBuilt, IsOneLink, IsPlayed}
+use Rattle.pipe_model.specs.Fits.{Fits}
+use Rattle.world_core.specs.Played.{IsOneLink, IsPlayed}
 use Rattle.world_core.specs.OneLink.{Stage, IsAtStage, the_link, the_key, the_keys, is_made}
 use Rattle.world_core.specs.Sockets.{Socket, FirstUpAtA, Confirmed, end_at, on_link}
 use Rattle.world_core.specs.WireSteps.{EachPlaced}
@@ -98,15 +100,15 @@ module _ (setup : Setup) (one : IsOneLink setup) (payload : List ℕ) (past : Li
       }
 
   post-home : (at : PostRef) (post : Post) → GoesHome setup (following_cdc at past) past post → PostIsHome setup payload at past post
-  post-home at (Write from link key address len) d = subst (λ o. IfSome o (λ m. IsHome setup payload (other from) link key address len m.token past)) (sym d.found_is) (is-home from link key address len (following_cdc at past) d)
+  post-home at (Write from link key address len) d = subst (λ o. IsSomeAnd o (λ m. IsHome setup payload (other from) link key address len m.token past)) (sym d.found_is) (is-home from link key address len (following_cdc at past) d)
   post-home at (Cdc from link m) d = tt
   post-home at (Llc from link m) d = tt
   post-home at (Clc from s link m) d = tt
 
-  first-home : (dir : Side) (c : Placed) → head (unlanded the_link dir past) ≡ Some c → IfSome (post_at c.at past) (PostIsHome setup payload c.at past)
+  first-home : (dir : Side) (c : Placed) → head (unlanded the_link dir past) ≡ Some c → IsSomeAnd (post_at c.at past) (PostIsHome setup payload c.at past)
   first-home dir c e =
       let w : IsUnderWay setup past c = first-one (IsUnderWay setup past) (unlanded the_link dir past) c (under-way setup one payload past n p dir) e in
-      subst (λ o. IfSome o (PostIsHome setup payload c.at past)) (sym (first-waiting-in the_link dir past c e)) (post-home c.at c.post w.home)
+      subst (λ o. IsSomeAnd o (PostIsHome setup payload c.at past)) (sym (first-waiting-in the_link dir past c e)) (post-home c.at c.post w.home)
 
   -- whatever a delivery is told
   module _ (slot : ℕ) (dir : Side) where
@@ -135,7 +137,7 @@ module _ (setup : Setup) (one : IsOneLink setup) (payload : List ℕ) (past : Li
       by stage at true e = inr (lands-made setup stage past dir at e)
       by stage at false e = inl (lands-unmade setup stage past dir at e)
 
-  home-by : (before : ℕ) (event : Event) (reply : Reply) → IsBuilt setup (length payload) event → reply ≡ reply_of before (told setup payload past event) → LandsHome setup payload event reply past
+  home-by : (before : ℕ) (event : Event) (reply : Reply) → Fits setup (length payload) event → reply ≡ reply_of before (told setup payload past event) → LandsHome setup payload event reply past
   home-by before (Open s) reply built e = tt
   home-by before (WriteEvent end at len) reply built e = tt
   home-by before (Read end len) reply built e = tt
@@ -144,67 +146,6 @@ module _ (setup : Setup) (one : IsOneLink setup) (payload : List ℕ) (past : Li
   home-by before (Complete slot dir) reply built e = tt
   home-by before _ reply built e = absurd built
 
-  -- what lands is the first that waits
-  at-is : (c : Placed) (at : PostRef) → Landed c.at ≡ Landed at → c.at ≡ at
-  at-is c at e = cc
-
-  lands-as : (dir : Side) (c : Placed) (at : PostRef) (post : Post) → lands_told setup payload (other dir) past c post ≡ Landed at → c.at ≡ at
-  lands-as dir c at (Write from link key address len) e = at-is c at e
-  lands-as dir c at (Llc from link m) e = at-is c at e
-  lands-as dir c at (Clc from s link m) e = at-is c at e
-  lands-as dir c at (Cdc from link m) e = by (is_some (record_of setup payload (other dir) m.token past)) e
-    where
-      by : (b : Bool) → (if b then Landed c.at else Dropped m.token) ≡ Landed at → c.at ≡ at
-      by true f = at-is c at f
-      by false f = cc
-
-  abbrev LandsFirst : Side → PostRef → Type 0
-  LandsFirst dir at = (c : Placed) × ((head (unlanded the_link dir past) ≡ Some c) × (c.at ≡ at))
-
-  landed-by : (dir : Side) (at : PostRef) (o : Option Placed) → (o ≡ None) ⊎ (o ≡ head (unlanded the_link dir past)) → deliver_told setup payload (other dir) past o ≡ Landed at → LandsFirst dir at
-  landed-by dir at None f e = absurd (let g : Idle ≡ Landed at = e in cc)
-  landed-by dir at (Some c) (inl f) e = absurd (let g : None ≡ Some c = sym f in cc)
-  landed-by dir at (Some c) (inr f) e = (c, (sym f, lands-as dir c at c.post e))
-
-  first-landed : (before slot : ℕ) (dir : Side) (at : PostRef) (reply : Reply) → slot ≡ 1 → reply ≡ reply_of before (told setup payload past (Deliver slot dir)) → reply ≡ Landed at → LandsFirst dir at
-  first-landed before slot dir at reply one_slot e f = landed-by dir at (landing 1 dir past) (landing-is dir) (sym (e ∙ ap (λ k. deliver_told setup payload (other dir) past (landing k dir past)) one_slot) ∙ f)
-
-  -- it stands in the history, and is home where it is a write
-  pub stands-there : (dir : Side) (at : PostRef) → LandsFirst dir at → (post : Post) × (post_at at past ≡ Some post)
-  stands-there dir at l = let c = l.0 in let f = l.1 in (c.post, subst (λ (a : PostRef). post_at a past ≡ Some c.post) f.1 (first-waiting-in the_link dir past c f.0))
-
-  abbrev IsTrulyHome : PostRef → Side → LinkId → ℕ → ℕ → ℕ → Type 0
-  IsTrulyHome at from link key address len = (m : CdcMessage) × ((following_cdc at past ≡ Some m) × IsHome setup payload (other from) link key address len m.token past)
-
-  truly-home : (dir : Side) (at : PostRef) → LandsFirst dir at → (from : Side) (link : LinkId) (key address len : ℕ) → post_at at past ≡ Some (Write from link key address len) → IsTrulyHome at from link key address len
-  truly-home dir at l from link key address len e =
-      let c = l.0 in
-      let f = l.1 in
-      let w : IsUnderWay setup past c = first-one (IsUnderWay setup past) (unlanded the_link dir past) c (under-way setup one payload past n p dir) f.0 in
-      let stands : post_at at past ≡ Some c.post = subst (λ (a : PostRef). post_at a past ≡ Some c.post) f.1 (first-waiting-in the_link dir past c f.0) in
-      let is : c.post ≡ Write from link key address len = some-post c.post (Write from link key address len) (sym stands ∙ e) in
-      let d : IsDirected setup from link key address len (following_cdc at past) past =
-      subst (λ (a : PostRef). GoesHome setup (following_cdc a past) past (Write from link key address len)) f.1 (subst (λ q. GoesHome setup (following_cdc c.at past) past q) is w.home) in
-      (d.message, (d.found_is, is-home from link key address len (following_cdc at past) d))
-    where
-      some-post : (a b : Post) → Some a ≡ Some b → a ≡ b
-      some-post a b g = cc
-
 -- each write that lands with an entry is home
 pub lands-home : (setup : Setup) → IsOneLink setup → (payload : List ℕ) (e : Entry) (past : List Entry) (n : ℕ) → IsPlayed setup payload (e ∷ past) n → LandsHome setup payload e.event e.reply past
 lands-home setup one payload e past n p = let made = p.1 in home-by setup one payload past p.0 p.3 p.0 e.event e.reply made.built made.reply
-
--- what lands stands in the history, and is home where it is a write: a CDC message stands behind it
-module _ (setup : Setup) (one : IsOneLink setup) (payload : List ℕ) (e : Entry) (past : List Entry) (n : ℕ) (p : IsPlayed setup payload (e ∷ past) n) (slot : ℕ) (dir : Side) (at : PostRef)
-    (event : e.event ≡ Deliver slot dir) (reply : e.reply ≡ Landed at) where
-  first-of : LandsFirst setup one payload past p.0 p.3 dir at
-  first-of =
-      let made = p.1 in
-      first-landed setup one payload past p.0 p.3 p.0 slot dir at e.reply (subst (λ (v : Event). IsBuilt setup (length payload) v) event made.built) (made.reply ∙ ap (λ (v : Event). reply_of p.0 (told setup payload past v)) event) reply
-
-  pub landed-stands : (post : Post) × (post_at at past ≡ Some post)
-  landed-stands = stands-there setup one payload past p.0 p.3 dir at first-of
-
-  pub landed-home : (from : Side) (link : LinkId) (key address len : ℕ) → post_at at past ≡ Some (Write from link key address len)
-      → (m : CdcMessage) × ((following_cdc at past ≡ Some m) × IsHome setup payload (other from) link key address len m.token past)
-  landed-home = truly-home setup one payload past p.0 p.3 dir at first-of

@@ -20,7 +20,8 @@ use Rattle.side_core.specs.Manager.{Manager, StandsFor}
 use Rattle.world_core.specs.declared.host.Host.{Host}
 use Rattle.world_core.specs.declared.host.Outflow.{Outflow}
 use Rattle.world_core.specs.OneLink.{the_link}
-use Rattle.world_core.specs.Played.{IsPlayed, IsBuilt, handed}
+use Rattle.pipe_model.specs.Fits.{Fits}
+use Rattle.world_core.specs.Played.{IsPlayed, handed}
 use Rattle.world_core.specs.WireSteps.{landing_now}
 use Rattle.world_core.specs.Landed.{buffer_of, peer_buffer, first_lands, waiting_posts}
 use Rattle.world_core.specs.Managers.{manager_of, HasLendings}
@@ -62,7 +63,7 @@ module _ (setup : Setup) (payload : List ℕ) (past : List Entry) (e : Entry) wh
       subst (λ (b : Buffer). StandsFor v (manager_of setup payload (b ∷ []) y (e ∷ past))) (sym (buffer-kept y none)) (subst (λ (k : Manager Half). StandsFor v k) (sym is) stands)
 
 -- the entry of an event
-module _ (setup : Setup) (payload : List ℕ) (set : IsWorldSet setup payload) (past : List Entry) (heard : ℕ) (was : IsPlayed setup payload past heard) (event : Event) (built : IsBuilt setup (length payload) event) (actor : ℕ) where
+module _ (setup : Setup) (payload : List ℕ) (set : IsWorldSet setup payload) (past : List Entry) (heard : ℕ) (was : IsPlayed setup payload past heard) (event : Event) (built : Fits setup (length payload) event) (actor : ℕ) where
   abbrev Now : Entry
   Now = entry_of setup payload past heard actor event
 

@@ -18,7 +18,8 @@ use Rattle.rc_link.specs.Wire.{Queues, room_of}
 use Rattle.side_core.specs.Manager.{Manager, StandsFor}
 use Rattle.world_core.specs.declared.host.Host.{Host}
 use Rattle.world_core.specs.OneLink.{the_link}
-use Rattle.world_core.specs.Played.{IsBuilt, handed}
+use Rattle.pipe_model.specs.Fits.{Fits}
+use Rattle.world_core.specs.Played.{handed}
 use Rattle.world_core.specs.WireSteps.{landing_now}
 use Rattle.world_core.specs.Landed.{buffer_of}
 use Rattle.world_core.specs.Managers.{manager_of, hand_of}
@@ -34,7 +35,7 @@ use Rattle.world_core.proofs.StreamsAfter.{Flowing}
 use Rattle.world_core.proofs.Plain.{twice}
 
 module _ (setup : Setup) (payload : List ℕ) (past : List Entry) (heard : ℕ) (event : Event) (h k : Host) (before : AreHostsAfter setup payload past heard (acting_side event) h k) (few : length past < 2 ^ 18)
-    (built : IsBuilt setup (length payload) event) (lands : (y : Side) (reply : Reply) (posts : List Post) (actor : ℕ) → landing_now the_link y (entry-of actor event reply posts) past ≡ 0)
+    (built : Fits setup (length payload) event) (lands : (y : Side) (reply : Reply) (posts : List Post) (actor : ℕ) → landing_now the_link y (entry-of actor event reply posts) past ≡ 0)
     (unmoved : (y : Side) (w : Queues) → moved y event w ≡ w) (silent : (s : ℕ) (reply : Reply) → written payload (acting_side event) s event reply past ≡ []) (actor : ℕ) where
   stands-then : (y : Side) (v : Manager Kept) → StandsFor v (manager_of setup payload (buffer_of setup payload y 1 past ∷ []) y (entry_of setup payload past heard actor event ∷ past))
       → StandsFor v (manager_of setup payload (buffer_of setup payload y 1 (entry_of setup payload past heard actor event ∷ past) ∷ []) y (entry_of setup payload past heard actor event ∷ past))

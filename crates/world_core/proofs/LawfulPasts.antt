@@ -1,5 +1,5 @@
 -- A played history is lawful, whatever bytes it handed out as its answers ask.
-use Rattle.std.proofs.Common.{◌≡◌, ◌∙◌, ℕ, ◌+◌, Bool, true, false, if◌then◌else◌, List, [], ◌∷◌, ◌++◌, length, refl, ap, sym, arith, length-append}
+use Rattle.std.proofs.Common.{◌≡◌, ◌∙◌, ℕ, ◌+◌, Bool, true, false, if◌then◌else◌, List, [], ◌∷◌, ◌++◌, length, refl, ap, sym, subst, arith, length-append}
 use Rattle.smc_num.specs.declared.Side.TheVariants.{A, B}
 use Rattle.pipe_model.specs.declared.setup.Setup.{Setup}
 use Rattle.pipe_model.specs.declared.entry.Entry.{Entry}
@@ -11,6 +11,10 @@ use Rattle.world_core.specs.Heard.{AddsBytes, IsHeard, all_bytes, told_bytes}
 use Rattle.pipe_model.specs.declared.event.Event.{Event}
 use Rattle.pipe_model.specs.declared.event.Event.TheVariants.{Read}
 use Rattle.pipe_model.specs.Connections.{is_up}
+use Rattle.pipe_model.specs.declared.reply.Lack.{Lack}
+use Rattle.pipe_model.specs.declared.reply.Reply.TheVariants.{Declined}
+use Rattle.pipe_model.specs.Causes.{IsLacking, DeclinesForLack}
+use Rattle.pipe_model.proofs.Declines.{told-named}
 use Rattle.world_core.proofs.Handshaken.{shaken}
 use Rattle.world_core.proofs.Pipes.{has-pipe}
 use Rattle.world_core.proofs.HomeLandings.{lands-home}
@@ -33,6 +37,13 @@ heard-long setup payload (e ∷ older) n p heard h =
     let count = p.2 in
     omega (arith, before, given, all, count)
 
+-- what is declined is declined for a lack that holds
+lacking-in : (setup : Setup) (payload : List ℕ) (e : Entry) (past : List Entry) (n : ℕ) → IsPlayed setup payload (e ∷ past) n → DeclinesForLack setup payload e.event e.reply past
+lacking-in setup payload e past n p = let made = p.1 in subst (λ r. DeclinesForLack setup payload e.event r past) (sym made.reply) (told-named setup payload past e.event p.0)
+
+pub declined-lacks : (setup : Setup) (payload : List ℕ) (e : Entry) (past : List Entry) (n : ℕ) → IsPlayed setup payload (e ∷ past) n → (lack : Lack) → e.reply ≡ Declined lack → IsLacking setup payload e.event past lack
+declined-lacks setup payload e past n p lack f = subst (λ r. DeclinesForLack setup payload e.event r past) f (lacking-in setup payload e past n p)
+
 module _ (setup : Setup) (one : IsOneLink setup) (payload : List ℕ) where
   pub lawful-step : (e : Entry) (past : List Entry) (n : ℕ) (p : IsPlayed setup payload (e ∷ past) n) (before heard : List ℕ) → length before ≡ p.0 → AddsBytes setup payload past e.event before heard → IsStep setup payload past before e heard
   lawful-step e past n p before heard long a = let made = p.1 in record {
@@ -46,6 +57,7 @@ module _ (setup : Setup) (one : IsOneLink setup) (payload : List ℕ) where
     lent_b = are-relent setup one payload e past n p B;
     bound_a = are-bound setup one payload e past n p A;
     bound_b = are-bound setup one payload e past n p B;
+    lacking = lacking-in setup payload e past n p;
     shown = causes-shown setup one payload (e ∷ past) n p;
   }
 

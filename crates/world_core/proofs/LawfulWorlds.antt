@@ -16,7 +16,7 @@ use Rattle.pipe_model.specs.Fits.{Fits}
 use Rattle.pipe_model.specs.Calls.{Told}
 use Rattle.pipe_model.specs.Lawful.{IsStep, IsLawful, IsLawfulPast, claims_bytes}
 use Rattle.world_core.specs.Settings.{bad_field}
-use Rattle.world_core.specs.Played.{IsBuilt, IsMade, IsPlayed, handed}
+use Rattle.world_core.specs.Played.{IsMade, IsPlayed, handed}
 use Rattle.world_core.specs.Heard.{told_bytes, all_bytes}
 use Rattle.world_core.specs.Steps.{Seen, past, fresh_world, entry_of, refusal, stepped, world_or, after_step, after_pump, world_after_next, next_event, candidates, slot_events, socket_events, told_by, does_something, opened_socket, opening_order}
 use Rattle.world_core.specs.Hosts.{IsWorldAfter}
@@ -34,16 +34,6 @@ fresh_is_lawful setup payload room e = let g = good setup room e in record { one
 pub world_is_lawful : (w : Seen) (a b : Host) (opened : List ℕ) (paths : List Bool) (history_room heard_room opened_room : ℕ) → IsWorldAfter w a b opened paths history_room heard_room opened_room → IsLawfulWorld w
 world_is_lawful w a b opened paths history_room heard_room opened_room k = let h = k.hosts in let set = h.set in record { one = set.one; played = h.played; heard_is = k.heard_is }
 
--- an event that fits is one that is built
-pub is-built : (setup : Setup) (payload : ℕ) (event : Event) → Fits setup payload event → IsBuilt setup payload event
-is-built setup payload (Open s) f = f
-is-built setup payload (Clc s dir) f = f
-is-built setup payload (Write end at len) f = f
-is-built setup payload (Read end len) f = f
-is-built setup payload (Deliver slot dir) f = f
-is-built setup payload (Complete slot dir) f = f
-is-built setup payload _ f = absurd f
-
 module _ (w : Seen) (l : IsLawfulWorld w) where
   -- its history is lawful
   pub history_is_lawful : IsLawful w.setup w.payload w.history w.heard
@@ -52,7 +42,7 @@ module _ (w : Seen) (l : IsLawfulWorld w) where
 
   module _ (actor : ℕ) (event : Event) (fits : Fits w.setup (length w.payload) event) where
     made-now : IsMade w.setup w.payload (past w) (length w.heard) (entry_of w.setup w.payload (past w) (length w.heard) actor event)
-    made-now = record { built = is-built w.setup (length w.payload) event fits; reply = refl; posts = refl }
+    made-now = record { built = fits; reply = refl; posts = refl }
 
     -- an event that fits makes a lawful step
     pub step_is_lawful : IsStep w.setup w.payload (past w) w.heard (entry_of w.setup w.payload (past w) (length w.heard) actor event) (w.heard ++ told_bytes (told_by w event))
@@ -110,7 +100,7 @@ known-append : (setup : Setup) (ss ts : List ℕ) → EachKnown setup ss → Eac
 known-append setup [] ts p q = q
 known-append setup (s ∷ ss) ts p q = (p.0, known-append setup ss ts p.1 q)
 
-known-one : (setup : Setup) (payload : ℕ) (event : Event) (reply : Reply) → IsBuilt setup payload event → EachKnown setup (option_to_list (opened_socket event reply))
+known-one : (setup : Setup) (payload : ℕ) (event : Event) (reply : Reply) → Fits setup payload event → EachKnown setup (option_to_list (opened_socket event reply))
 known-one setup payload (Open s) Opened b = (b, tt)
 known-one setup payload _ _ b = tt
 

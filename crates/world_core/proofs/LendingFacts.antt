@@ -17,7 +17,8 @@ use Rattle.world_core.proofs.TakenMessages.{same}
 use Rattle.smc_num.specs.declared.LinkId.{LinkId}
 use Rattle.world_core.specs.OneLink.{Stage, the_link}
 use Rattle.smc_num.specs.declared.Side.TheVariants.{A, B}
-use Rattle.world_core.specs.Played.{IsBuilt, IsOneLink, IsPlayed}
+use Rattle.pipe_model.specs.Fits.{Fits}
+use Rattle.world_core.specs.Played.{IsOneLink, IsPlayed}
 use Rattle.std.specs.Option.{option_or}
 use Rattle.smc_num.specs.Places.{Place, is_free, same_place}
 use Rattle.pipe_model.specs.Posts.{offered_place}
@@ -184,7 +185,7 @@ module _ (setup : Setup) (one : IsOneLink setup) (payload : List ℕ) (x : Side)
   rmbs A = one.rmbs_a
   rmbs B = one.rmbs_b
 
-  pub lendings-on : (n : ℕ) (stage : Stage) → IsWorld setup stage (e ∷ older) → IsBuilt setup n e.event → Begins setup payload x e older → AreLendings setup payload x older → AreLendings setup payload x (e ∷ older)
+  pub lendings-on : (n : ℕ) (stage : Stage) → IsWorld setup stage (e ∷ older) → Fits setup n e.event → Begins setup payload x e older → AreLendings setup payload x older → AreLendings setup payload x (e ∷ older)
   lendings-on n stage w built (BeginsNone none) a =
       let same : lendings x (e ∷ older) ≡ lendings x older = ap (λ (ls : List Lending). ls ++ lendings x older) none in
       let sockets : HaveSockets (lendings x (e ∷ older)) = subst (λ (ls : List Lending). HaveSockets ls) (sym same) a.sockets in
@@ -199,7 +200,7 @@ module _ (setup : Setup) (one : IsOneLink setup) (payload : List ℕ) (x : Side)
       let same : lendings x (e ∷ older) ≡ lends_by s the_link o ∷ lendings x older = ap (λ (ls : List Lending). ls ++ lendings x older) begun in
       let apart : EachLending (λ m. (m.s == s) ≡ false) (lendings x older) = not-among s (lendings x older) (found-lending x s older ∙ ap (λ (q : Option Offered). option_map (lends-for s) q) none) in
       let sockets : HaveSockets (lendings x (e ∷ older)) = subst (λ (ls : List Lending). HaveSockets ls) (sym same) (apart, a.sockets) in
-      let low : s < setup.sockets = subst (IsBuilt setup n) event built in
+      let low : s < setup.sockets = subst (Fits setup n) event built in
       let place : IsFree setup payload x older (offered_place o) = is-free setup payload x older (rmbs x) (offered_place o) free in
       record {
         counted = subst (λ (ls : List Lending). AreCounted ls) (sym same) (token, a.counted);

@@ -31,7 +31,6 @@ pub mod Confirming
 pub mod Counts
 pub mod DataPosts
 pub mod DataSends
-pub mod Declines
 pub mod DirectedWrites
 pub mod Due
 pub mod DuePosts

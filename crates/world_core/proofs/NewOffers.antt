@@ -37,7 +37,7 @@ use Rattle.pipe_model.specs.Connections.{named_link}
 use Rattle.pipe_model.specs.Posts.{new_offer, clc_posts, ready_posts, first_link, fewest}
 use Rattle.pipe_model.specs.Replies.{clc_step}
 use Rattle.pipe_model.specs.Lawful.{front_posts, asked}
-use Rattle.world_core.specs.Played.{IsBuilt}
+use Rattle.pipe_model.specs.Fits.{Fits}
 use Rattle.world_core.specs.Sockets.{Socket, Proposed, Refused, FirstAccepted, Accepted, StandsAt, end_at, offered_at}
 use Rattle.world_core.specs.WireSteps.{EachPost}
 use Rattle.world_core.proofs.TakenMessages.{end-is}
@@ -253,7 +253,7 @@ open-offers setup payload past s Opened = record { offers = λ x r. by x r }
 open-offers setup payload past s _ = no-offers-in
 
 -- what an event makes handshake and flows offer: nothing, or once
-pub asked-offers : (setup : Setup) (payload : List ℕ) (past : List Entry) → ((s : ℕ) → HasSocketAt setup s past) → (event : Event) (reply : Reply) → IsBuilt setup (length payload) event →
+pub asked-offers : (setup : Setup) (payload : List ℕ) (past : List Entry) → ((s : ℕ) → HasSocketAt setup s past) → (event : Event) (reply : Reply) → Fits setup (length payload) event →
     NoOffers (asked setup payload past event reply) ⊎ OneOffer event past (asked setup payload past event reply)
 asked-offers setup payload past h (Open s) reply b = inl (open-offers setup payload past s reply)
 asked-offers setup payload past h (ClcEvent t dir) reply b = let q = h t in clc-offers setup payload past t q.at q.stands dir reply

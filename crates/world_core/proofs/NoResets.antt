@@ -18,7 +18,8 @@ use Rattle.pipe_model.specs.Connections.{EndState, IsUp, group_on}
 use Rattle.pipe_model.specs.Lending.{pipe_of}
 use Rattle.pipe_model.specs.Fallback.{fallen_call, own_phase, fallen_phase, peer_did, is_fallen}
 use Rattle.pipe_model.specs.Causes.{kept_in, kept_cause, CausesAreShown}
-use Rattle.world_core.specs.Played.{IsBuilt, IsOneLink, IsPlayed}
+use Rattle.pipe_model.specs.Fits.{Fits}
+use Rattle.world_core.specs.Played.{IsOneLink, IsPlayed}
 use Rattle.world_core.specs.Sockets.{Socket, Unopened, Fallen, Proposed, Refused, FirstAccepted, FirstConfirmed, AwaitsLink, FirstUpAtA, FirstUp, Accepted, AcceptRefused, AcceptFallen, Confirmed, Up, up_at, early_at, end_at}
 use Rattle.world_core.proofs.TakenMessages.{end-is}
 use Rattle.world_core.proofs.PlayedWorlds.{played}
@@ -27,7 +28,7 @@ use Rattle.world_core.proofs.Pipes.{has-pipe}
 use Rattle.world_core.proofs.Plain.{and-false}
 
 -- an end that no call closes stays open
-built-keeps : (setup : Setup) (m : ℕ) (x : Side) (s : ℕ) (event : Event) (reply : Reply) (phase : Phase) → IsBuilt setup m event → fallen_call x s event reply phase ≡ phase
+built-keeps : (setup : Setup) (m : ℕ) (x : Side) (s : ℕ) (event : Event) (reply : Reply) (phase : Phase) → Fits setup m event → fallen_call x s event reply phase ≡ phase
 built-keeps setup m x s (OpenEvent t) reply phase b = refl
 built-keeps setup m x s (Write end at len) reply phase b = refl
 built-keeps setup m x s (Read end len) reply phase b = refl

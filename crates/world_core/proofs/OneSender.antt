@@ -25,7 +25,8 @@ use Rattle.pipe_model.specs.Lending.{terms_of}
 use Rattle.pipe_model.specs.Keys.{last_bound}
 use Rattle.pipe_model.specs.Posts.{writes, offered_place, sent_posts, end_posts, pipe_posts, is_offered, offered_sockets, connection_posts}
 use Rattle.pipe_model.specs.Lawful.{draft}
-use Rattle.world_core.specs.Played.{IsBuilt, IsMade, IsPlayed}
+use Rattle.pipe_model.specs.Fits.{Fits}
+use Rattle.world_core.specs.Played.{IsMade, IsPlayed}
 use Rattle.world_core.specs.OneLink.{the_link}
 use Rattle.world_core.specs.Wired.{EachItem, passes_by}
 use Rattle.world_core.specs.WireSteps.{CompletesNow, Way}
@@ -158,7 +159,7 @@ module _ (setup : Setup) (payload : List ℕ) (e : Entry) (past : List Entry) (b
             rest = λ y t f. its-rests d y t s0 (completed_at e.reply) f (λ ne. w.1 t ∙ not-its d t s0 o0 l.first.post l ne i.0 (λ token c. its-token d token l.first.post c ∙ i.1) (offered (other d) t past) refl) (is t);
           }
 
-  single-by : (event : Event) → e.event ≡ event → IsBuilt setup (length payload) event → Single
+  single-by : (event : Event) → e.event ≡ event → Fits setup (length payload) event → Single
   single-by (Open s) v b = all-rest (λ y t. none-rests y (Deeds t) (ap (λ event. deeds payload t event e.reply past) v))
   single-by (Clc s dir) v b = all-rest (λ y t. none-rests y (Deeds t) (ap (λ event. deeds payload t event e.reply past) v))
   single-by (Write end at len) v b = of-call end (Writes (take len (drop at payload))) (λ t. ap (λ event. deeds payload t event e.reply past) v)

@@ -16,7 +16,8 @@ use Rattle.pipe_model.specs.Pipe.{Calls, Lands, Completes, half}
 use Rattle.pipe_model.specs.Connections.{is_up, call_on, deeds, part, group_on, landed_at, completed_at}
 use Rattle.pipe_model.specs.Lending.{terms_of, pipe_of}
 use Rattle.pipe_model.proofs.Unswallowed.{unswallowed-near}
-use Rattle.world_core.specs.Played.{IsBuilt, IsPlayed}
+use Rattle.pipe_model.specs.Fits.{Fits}
+use Rattle.world_core.specs.Played.{IsPlayed}
 use Rattle.world_core.specs.OneLink.{the_link}
 use Rattle.world_core.specs.Agreement.{HasOffers, IsShaken, CanBe, HasPipe}
 use Rattle.world_core.proofs.OpenEnds.{half-open, never-over}
@@ -41,7 +42,7 @@ no-call end call s past f = by (s == end.s) refl
     by true e = ap (λ c. if c then Calls end.side call ∷ [] else []) (f end.side)
     by false e = refl
 
-no-deeds : (setup : Setup) (payload : List ℕ) (s : ℕ) (event : Event) (reply : Reply) (past : List Entry) → IsBuilt setup (length payload) event → ((x : Side) → is_up x s past ≡ false) → ((x : Side) → offered x s past ≡ None) → deeds payload s event reply past ≡ []
+no-deeds : (setup : Setup) (payload : List ℕ) (s : ℕ) (event : Event) (reply : Reply) (past : List Entry) → Fits setup (length payload) event → ((x : Side) → is_up x s past ≡ false) → ((x : Side) → offered x s past ≡ None) → deeds payload s event reply past ≡ []
 no-deeds setup payload s (Open t) reply past b f o = refl
 no-deeds setup payload s (Clc t dir) reply past b f o = refl
 no-deeds setup payload s (Write end at len) reply past b f o = no-call end (Writes (take len (drop at payload))) s past f

@@ -20,7 +20,8 @@ use Rattle.smc_num.specs.declared.Side.{Side}
 use Rattle.world_core.proofs.DataPosts.{connections-data, shows-plus, unseen-lends}
 use Rattle.pipe_model.specs.declared.post.Post.{Post}
 use Rattle.pipe_model.specs.Wires.{landing, unlanded}
-use Rattle.world_core.specs.Played.{IsBuilt, IsMade, IsOneLink, IsPlayed}
+use Rattle.pipe_model.specs.Fits.{Fits}
+use Rattle.world_core.specs.Played.{IsMade, IsOneLink, IsPlayed}
 use Rattle.world_core.proofs.QuietEvents.{by-side, entry-of, quiet-complete, quiet-idle-landing, quiet-read, quiet-write}
 use Rattle.pipe_model.specs.Replies.{deliver_told, lands_told}
 use Rattle.smc_num.specs.Names.{head, other}
@@ -135,7 +136,7 @@ module _ (setup : Setup) (one : IsOneLink setup) (payload : List ℕ) (actor : �
       by_made false e = by_found (landing 1 dir older) refl (inl (lands-unmade setup stage older dir w.link e))
 
   -- an entry with the posts of the handshake and of the flows alone
-  event-goes : (stage : Stage) (before : ℕ) (event : Event) (reply : Reply) → IsBuilt setup (length payload) event → IsWorld setup stage older → reply ≡ reply_of before (told setup payload older event)
+  event-goes : (stage : Stage) (before : ℕ) (event : Event) (reply : Reply) → Fits setup (length payload) event → IsWorld setup stage older → reply ≡ reply_of before (told setup payload older event)
       → LeadsOn setup payload (entry-of actor event reply (asked setup payload older event reply)) older
   event-goes stage before (Open t) reply built w r = open-goes setup actor t older payload stage reply (asked setup payload older (Open t) reply) w r refl
   event-goes stage before (Write end at len) reply built w r = quietly stage (entry-of actor (Write end at len) reply []) w (quiet-write actor older end at len reply)

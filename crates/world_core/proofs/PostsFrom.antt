@@ -31,7 +31,8 @@ use Rattle.pipe_model.specs.Lending.{terms_of}
 use Rattle.pipe_model.specs.Keys.{last_bound}
 use Rattle.pipe_model.specs.Posts.{writes, offered_place, sent_posts, connection_posts}
 use Rattle.pipe_model.specs.Lawful.{draft}
-use Rattle.world_core.specs.Played.{IsOneLink, IsBuilt, IsMade, IsPlayed}
+use Rattle.pipe_model.specs.Fits.{Fits}
+use Rattle.world_core.specs.Played.{IsOneLink, IsMade, IsPlayed}
 use Rattle.world_core.specs.OneLink.{the_link, llc_of, llc_in, posted_llc}
 use Rattle.world_core.specs.Wired.{EachItem}
 use Rattle.world_core.specs.WireSteps.{EachPost, IsCdcOn, leaving}
@@ -136,7 +137,7 @@ sides-by B B b e = inl refl
 sides-by A B b e = inr refl
 sides-by B A b e = inr refl
 
-rests-as : (setup : Setup) (payload : List ℕ) (past : List Entry) (y : Side) (t : ℕ) (event : Event) (reply : Reply) → IsBuilt setup (length payload) event → same_side y (acting_side event) ≡ false → EachItem (rests y) (deeds payload t event reply past)
+rests-as : (setup : Setup) (payload : List ℕ) (past : List Entry) (y : Side) (t : ℕ) (event : Event) (reply : Reply) → Fits setup (length payload) event → same_side y (acting_side event) ≡ false → EachItem (rests y) (deeds payload t event reply past)
 rests-as setup payload past y t (Open s) reply b e = tt
 rests-as setup payload past y t (ClcEvent s dir) reply b e = tt
 rests-as setup payload past y t (WriteEvent end at len) reply b e = call-items (rests y) end (Writes (take len (drop at payload))) t past (ap (λ c. not c) e)

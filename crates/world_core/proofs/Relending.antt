@@ -13,7 +13,7 @@ use Rattle.pipe_model.specs.Words.{rmbs_of}
 use Rattle.pipe_model.specs.History.{offered, Offered}
 use Rattle.pipe_model.specs.Fabric.{has_ended}
 use Rattle.pipe_model.specs.Connections.{EndState, HasFallen, end_state, group_on, token_of}
-use Rattle.pipe_model.specs.Lending.{Lending, lends_by, lendings, lent, is_out, told_last, is_gone, is_done_with, IsRelent, IsLent, free_places}
+use Rattle.pipe_model.specs.Lending.{Lending, lends_by, lendings, lent, is_out, told_last, is_gone, is_done_with, IsRelent, RelendsOnlyDone, free_places}
 use Rattle.pipe_model.specs.Fallback.{is_fallen, is_fallen_state}
 use Rattle.pipe_model.specs.Posts.{offered_place}
 use Rattle.world_core.specs.Played.{IsOneLink, IsPlayed}
@@ -96,13 +96,13 @@ module _ (setup : Setup) (one : IsOneLink setup) (payload : List ℕ) (past : Li
       kept-all (λ l. IsTrue (is_done_with x l past)) (λ l. same_place (offered_place o) l.place) (lendings x past)
       (each-map (IsOfOffer x past) (λ l. same_place (offered_place o) l.place ≡ true → IsTrue (is_done_with x l past)) (done-or-apart x (offered_place o) apart) (lendings x past) all.offers)
 
-  lent-by : (x : Side) (e : Entry) → Begins setup payload x e past → IsLent x e past
+  lent-by : (x : Side) (e : Entry) → Begins setup payload x e past → RelendsOnlyDone x e past
   lent-by x e (BeginsNone none) = subst (λ (ls : List Lending). All (λ l. IsRelent x l past) ls) (sym none) (All-nil (λ l. IsRelent x l past))
   lent-by x e (BeginsOne s dir o event begun none free token) =
       subst (λ (ls : List Lending). All (λ l. IsRelent x l past) ls) (sym begun) (All-cons (λ l. IsRelent x l past) (lends_by s the_link o) [] (relent x s o free) (All-nil (λ l. IsRelent x l past)))
 
 -- each earlier lending of an element that an entry lends is done with
-pub are-relent : (setup : Setup) → IsOneLink setup → (payload : List ℕ) (e : Entry) (past : List Entry) (n : ℕ) → IsPlayed setup payload (e ∷ past) n → (x : Side) → IsLent x e past
+pub are-relent : (setup : Setup) → IsOneLink setup → (payload : List ℕ) (e : Entry) (past : List Entry) (n : ℕ) → IsPlayed setup payload (e ∷ past) n → (x : Side) → RelendsOnlyDone x e past
 are-relent setup one payload e past n p x =
     let g = played setup one payload past p.0 p.3 in
     let h = goes setup one payload g.stage p.0 e past p.1 g.world in

@@ -17,7 +17,8 @@ use Rattle.pipe_model.specs.Ends.{Half}
 use Rattle.pipe_model.specs.Calls.{Call, Writes, Reads}
 use Rattle.pipe_model.specs.Pipe.{Pipe, Terms, Item, Fate, GroupEnd, Up, Calls, Lands, Completes, half, pipe, apply}
 use Rattle.pipe_model.specs.Connections.{is_up, call_on, is_own, if_own, deeds, items, part, landed_at, completed_at}
-use Rattle.world_core.specs.Played.{IsBuilt, IsPlayed}
+use Rattle.pipe_model.specs.Fits.{Fits}
+use Rattle.world_core.specs.Played.{IsPlayed}
 use Rattle.world_core.specs.OneLink.{the_link}
 use Rattle.world_core.specs.Wired.{EachItem, keeps_open}
 use Rattle.world_core.specs.Agreement.{GoesOn, IsShaken}
@@ -55,7 +56,7 @@ completes-are y s at past = by (passes (is_own y s past) at)
     by true = Completing y refl
     by false = Nothing refl
 
-pub deeds-are : (setup : Setup) (payload : List ℕ) (s : ℕ) (event : Event) (reply : Reply) (past : List Entry) → IsBuilt setup (length payload) event → DeedsAre (deeds payload s event reply past)
+pub deeds-are : (setup : Setup) (payload : List ℕ) (s : ℕ) (event : Event) (reply : Reply) (past : List Entry) → Fits setup (length payload) event → DeedsAre (deeds payload s event reply past)
 deeds-are setup payload s (Open t) reply past b = Nothing refl
 deeds-are setup payload s (Clc t dir) reply past b = Nothing refl
 deeds-are setup payload s (Write end at len) reply past b = call-are end (Writes (take len (drop at payload))) s past
@@ -158,7 +159,7 @@ own-calls t item y s at past items i c = by (passes (is_own y s past) at)
     by true = (i, c)
     by false = c
 
-deeds-calls : (setup : Setup) (payload : List ℕ) (t : Terms) (s : ℕ) (event : Event) (reply : Reply) (past : List Entry) (items : List Item) → IsBuilt setup (length payload) event → ((x : Side) → is_up x s past ≡ true → (half x (pipe t items)).up ≡ true) → AreCallsUp t items →
+deeds-calls : (setup : Setup) (payload : List ℕ) (t : Terms) (s : ℕ) (event : Event) (reply : Reply) (past : List Entry) (items : List Item) → Fits setup (length payload) event → ((x : Side) → is_up x s past ≡ true → (half x (pipe t items)).up ≡ true) → AreCallsUp t items →
     AreCallsUp t (deeds payload s event reply past ++ items)
 deeds-calls setup payload t s (Open r) reply past items b f c = c
 deeds-calls setup payload t s (Clc r dir) reply past items b f c = c

@@ -26,7 +26,8 @@ use Rattle.std.proofs.lemmas.Bool.{eqb-true}
 use Rattle.world_core.proofs.TakenMessages.{end-is}
 use Rattle.pipe_model.specs.Lawful.{reply_of}
 use Rattle.world_core.proofs.LendingFacts.{find-append, found-in, lends-for}
-use Rattle.world_core.specs.Played.{IsBuilt, IsMade, IsOneLink, IsPlayed}
+use Rattle.pipe_model.specs.Fits.{Fits}
+use Rattle.world_core.specs.Played.{IsMade, IsOneLink, IsPlayed}
 use Rattle.world_core.proofs.PlayedWorlds.{played}
 use Rattle.pipe_model.specs.Fabric.{loses_group_with}
 use Rattle.pipe_model.specs.Replies.{clc_told, expects, front_told, open_told}
@@ -124,7 +125,7 @@ module _ (setup : Setup) (payload : List ℕ) (older : List Entry) (before : ℕ
       by_test true e = ap (λ q. after_clc q HasFallen) (r ∙ clc-idle t A (ap (λ n. end_state B n older) (sym (eqb-true s t e)) ∙ fallen))
       by_test false e = refl
 
-  falls-on : (x : Side) (s : ℕ) (event : Event) (reply : Reply) → IsBuilt setup (length payload) event → reply ≡ reply_of before (told setup payload older event) → end_state x s older ≡ HasFallen → is_opened s older ≡ true
+  falls-on : (x : Side) (s : ℕ) (event : Event) (reply : Reply) → Fits setup (length payload) event → reply ≡ reply_of before (told setup payload older event) → end_state x s older ≡ HasFallen → is_opened s older ≡ true
       → after_event x s event reply HasFallen ≡ HasFallen
   falls-on x s (Open t) reply built r fallen opened = after-open x s t reply opened r
   falls-on x s (Clc t dir) reply built r fallen opened = after-taking x s t dir reply fallen r

@@ -28,7 +28,8 @@ use Rattle.pipe_model.specs.Fabric.{loses_group_with}
 use Rattle.pipe_model.specs.Fallback.{Whole, NoMessage, Queues, front, front_of, front_length, clc_in, fallen_call, fallen_write, has_finished, is_fallen, is_fallen_state, is_opened, is_raw, own_phase, peer_did, queue_told, queues, read_out, stream, stream_room, takes_clc, takes_message, untaken, written}
 use Rattle.pipe_model.specs.Replies.{call_told, end_told, expects, fallen_told, front_told, open_told, told}
 use Rattle.pipe_model.specs.Lawful.{reply_of}
-use Rattle.world_core.specs.Played.{IsBuilt, IsMade, IsOneLink, IsPlayed}
+use Rattle.pipe_model.specs.Fits.{Fits}
+use Rattle.world_core.specs.Played.{IsMade, IsOneLink, IsPlayed}
 use Rattle.world_core.specs.Sockets.{Accepted, AcceptFallen, AcceptRefused, AwaitsLink, Confirmed, Fallen, FirstAccepted, FirstConfirmed, FirstUp, FirstUpAtA, Proposed, Refused, Socket, StandsAt, Unopened, Up, early_at, end_at, opened_at, untaken_at}
 use Rattle.world_core.specs.Sending.{acting_side}
 use Rattle.world_core.proofs.ClcLengths.{IsMeasured, measured-new, first-measured}
@@ -230,10 +231,10 @@ module _ (setup : Setup) (one : IsOneLink setup) (payload : List ℕ) where
   phases-open [] n q x s = refl
   phases-open (e ∷ past) n q x s = ap (λ phase. fallen_call x s e.event e.reply phase) (phases-open past q.0 q.3 x s) ∙ by_event e.event (built q.1)
     where
-      built : IsMade setup payload past q.0 e → IsBuilt setup (length payload) e.event
+      built : IsMade setup payload past q.0 e → Fits setup (length payload) e.event
       built m = m.built
 
-      by_event : (event : Event) → IsBuilt setup (length payload) event → fallen_call x s event e.reply Open ≡ Open
+      by_event : (event : Event) → Fits setup (length payload) event → fallen_call x s event e.reply Open ≡ Open
       by_event (OpenEvent t) b = refl
       by_event (Clc t dir) b = refl
       by_event (Write end at len) b = refl
@@ -344,7 +345,7 @@ module _ (setup : Setup) (one : IsOneLink setup) (payload : List ℕ) where
         by_event (Read end len) is = of (Read end len) is (by-side (λ y. after_event y s (Read end len) e.reply HasFallen ≡ HasFallen) refl refl x)
         by_event (Deliver slot dir) is = of (Deliver slot dir) is (by-side (λ y. after_event y s (Deliver slot dir) e.reply HasFallen ≡ HasFallen) refl refl x)
         by_event (Complete slot dir) is = of (Complete slot dir) is (by-side (λ y. after_event y s (Complete slot dir) e.reply HasFallen ≡ HasFallen) refl refl x)
-        by_event event is = absurd (subst (IsBuilt setup (length payload)) is made.built)
+        by_event event is = absurd (subst (Fits setup (length payload)) is made.built)
 
     pub fallen-stays : (x : Side) (s : ℕ) → is_fallen x s past ≡ true → is_fallen x s (e ∷ past) ≡ true
     fallen-stays x s f =
@@ -471,7 +472,7 @@ module _ (setup : Setup) (one : IsOneLink setup) (payload : List ℕ) where
         by_event (Write end at len) is = by_write end at len is (same_side x end.side && ((s == end.s) && is_fallen x s past)) refl
         by_event (Deliver slot dir) is = by-news x s (takes-as (Deliver slot dir) is) (reads-as (Deliver slot dir) is) (writes-as (Deliver slot dir) is ∙ deliver-writes payload x s slot dir e.reply past)
         by_event (Complete slot dir) is = by-news x s (takes-as (Complete slot dir) is) (reads-as (Complete slot dir) is) (writes-as (Complete slot dir) is ∙ complete-writes payload x s slot dir e.reply past)
-        by_event event is = absurd (subst (IsBuilt setup (length payload)) is made.built)
+        by_event event is = absurd (subst (Fits setup (length payload)) is made.built)
 
   -- a stream after an entry, by what leaves it and what comes in
   abbrev pub flowed : Bool → ℕ → ℕ → List ClcMessage → List ℕ → List ℕ → List ℕ

@@ -26,7 +26,8 @@ use Rattle.pipe_model.specs.Calls.{Writes}
 use Rattle.pipe_model.specs.Fallback.{clc_in, fallen_write, front_length, is_fallen, read_out, stream, stream_room, takes_clc, takes_message, untaken, written}
 use Rattle.pipe_model.specs.Lawful.{reply_of}
 use Rattle.tcp_pipe.specs.Streams.{Direction, free}
-use Rattle.world_core.specs.Played.{IsBuilt, IsMade, IsOneLink, IsPlayed}
+use Rattle.pipe_model.specs.Fits.{Fits}
+use Rattle.world_core.specs.Played.{IsMade, IsOneLink, IsPlayed}
 use Rattle.pipe_model.specs.Replies.{told}
 use Rattle.world_core.specs.Hosts.{IsStreamAfter}
 use Rattle.world_core.specs.Sending.{acting_side, outflow_at, puts, puts_all, still, takes_next}
@@ -108,14 +109,14 @@ module _ (setup : Setup) (one : IsOneLink setup) (payload : List ℕ) where
     own-takes : (s : ℕ) → takes_clc (acting_side e.event) s e.event e.reply ≡ false
     own-takes s = by e.event (built p.1)
       where
-        built : IsMade setup payload past p.0 e → IsBuilt setup (length payload) e.event
+        built : IsMade setup payload past p.0 e → Fits setup (length payload) e.event
         built k = k.built
 
         opposite : (dir : Side) → same_side (other dir) dir ≡ false
         opposite A = refl
         opposite B = refl
 
-        by : (event : Event) → IsBuilt setup (length payload) event → takes_clc (acting_side event) s event e.reply ≡ false
+        by : (event : Event) → Fits setup (length payload) event → takes_clc (acting_side event) s event e.reply ≡ false
         by (Open t) b = refl
         by (ClcEvent t dir) b = ap (λ c. (s == t) && (c && takes_message e.reply)) (opposite dir) ∙ and-false (s == t)
         by (Write end at len) b = refl
@@ -127,14 +128,14 @@ module _ (setup : Setup) (one : IsOneLink setup) (payload : List ℕ) where
     own-reads : (s : ℕ) → read_out (acting_side e.event) s e.event e.reply past ≡ 0
     own-reads s = by e.event (built p.1)
       where
-        built : IsMade setup payload past p.0 e → IsBuilt setup (length payload) e.event
+        built : IsMade setup payload past p.0 e → Fits setup (length payload) e.event
         built k = k.built
 
         opposite : (dir : Side) → same_side (other dir) dir ≡ false
         opposite A = refl
         opposite B = refl
 
-        by : (event : Event) → IsBuilt setup (length payload) event → read_out (acting_side event) s event e.reply past ≡ 0
+        by : (event : Event) → Fits setup (length payload) event → read_out (acting_side event) s event e.reply past ≡ 0
         by (Open t) b = refl
         by (ClcEvent t dir) b = refl
         by (Write end at len) b = refl
@@ -233,10 +234,10 @@ module _ (setup : Setup) (one : IsOneLink setup) (payload : List ℕ) where
     their-writes : (x : Side) (s : ℕ) → acting_side e.event ≡ other x → written payload x s e.event e.reply past ≡ []
     their-writes x s acts = by e.event (built p.1) acts
       where
-        built : IsMade setup payload past p.0 e → IsBuilt setup (length payload) e.event
+        built : IsMade setup payload past p.0 e → Fits setup (length payload) e.event
         built k = k.built
 
-        by : (event : Event) → IsBuilt setup (length payload) event → acting_side event ≡ other x → written payload x s event e.reply past ≡ []
+        by : (event : Event) → Fits setup (length payload) event → acting_side event ≡ other x → written payload x s event e.reply past ≡ []
         by (Open t) b c = open-writes payload x s t e.reply past
         by (ClcEvent t dir) b c = clc-writes payload x s t dir e.reply past
         by (Read end len) b c = read-writes payload x s end len e.reply past
@@ -279,7 +280,7 @@ module _ (setup : Setup) (one : IsOneLink setup) (payload : List ℕ) where
         within = built p.1
           where
             built : IsMade setup payload past p.0 e → end.s < setup.sockets
-            built k = let b : IsBuilt setup (length payload) (Write end at len) = subst (IsBuilt setup (length payload)) is k.built in b.0
+            built k = let b : Fits setup (length payload) (Write end at len) = subst (Fits setup (length payload)) is k.built in b.0
 
         takes-none : (r : ℕ) → takes_clc end.side r e.event e.reply ≡ false
         takes-none r = ap (λ v. takes_clc end.side r v e.reply) is
@@ -329,7 +330,7 @@ module _ (setup : Setup) (one : IsOneLink setup) (payload : List ℕ) where
         within = built p.1
           where
             built : IsMade setup payload past p.0 e → t < setup.sockets
-            built k = subst (IsBuilt setup (length payload)) is k.built
+            built k = subst (Fits setup (length payload)) is k.built
 
         waits : untaken x t past ≡ m ∷ []
         waits = alone (untaken x t past) m first (few-untaken setup one payload past p.0 p.3 x t)
@@ -385,7 +386,7 @@ module _ (setup : Setup) (one : IsOneLink setup) (payload : List ℕ) where
         within = built p.1
           where
             built : IsMade setup payload past p.0 e → end.s < setup.sockets
-            built j = subst (IsBuilt setup (length payload)) is j.built
+            built j = subst (Fits setup (length payload)) is j.built
 
         acts : acting_side e.event ≡ other x
         acts = ap acting_side is ∙ sym (other-other end.side)

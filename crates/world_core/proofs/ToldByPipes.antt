@@ -19,11 +19,12 @@ use Rattle.pipe_model.specs.Words.{is_nil}
 use Rattle.pipe_model.specs.Closing.{is_closing, cause_of}
 use Rattle.pipe_model.specs.Ends.{Half, window, unread}
 use Rattle.pipe_model.specs.Calls.{Call, Writes, Reads, Told, Plain, Hands, is_ended, half_told, write_told, read_told}
-use Rattle.pipe_model.specs.Pipe.{Terms, Item, Fate, GroupEnd, Up, Calls, Lands, Completes, half, pipe, told as pipe_told}
+use Rattle.pipe_model.specs.Pipe.{Terms, Item, Fate, GroupEnd, Up, Calls, Lands, Completes, half, pipe, told as pipe_told, is_near_part}
 use Rattle.pipe_model.specs.Connections.{IsUp, is_up, early_state, end_state, call_on, deeds, items, part, group_on, landed_at, completed_at}
 use Rattle.pipe_model.specs.Lending.{terms_of, pipe_of, leaves_handshake}
 use Rattle.pipe_model.specs.Replies.{told, call_told, end_told}
-use Rattle.pipe_model.specs.Lawful.{asked, reply_of, answers, answers_on, is_call_of, read_as, was_told}
+use Rattle.pipe_model.specs.Lawful.{asked, reply_of, answers, answers_on, as_claimed, is_call_of, read_as, read_near, was_told}
+use Rattle.pipe_model.proofs.LawfulSteps.{claimed-whole}
 use Rattle.world_core.specs.Played.{IsOneLink, IsPlayed}
 use Rattle.world_core.specs.Heard.{all_bytes, told_bytes}
 use Rattle.world_core.specs.Wired.{EachItem, is_transfer}
@@ -39,6 +40,7 @@ use Rattle.world_core.proofs.QuietEvents.{by-side, entry-of, quiet-write, quiet-
 use Rattle.world_core.proofs.QuietEntries.{bare, items-now}
 use Rattle.world_core.proofs.KnownEntries.{calm-of}
 use Rattle.world_core.proofs.LawfulPasts.{all-heard, heard-long}
+use Rattle.world_core.proofs.Pipes.{has-pipe}
 
 -- an answer that names no place among the bytes handed out
 abbrev names_none : Told → Bool
@@ -117,32 +119,32 @@ fate-or-up-no-call (Completes x) e = refl
 
 module _ (setup : Setup) (payload : List ℕ) (g s : ℕ) (heard : List ℕ) where
   with-items : (e : Entry) (past : List Entry) (is : List Item) → items payload g s e past ≡ is
-      → map (λ i. read_as heard e.reply) (filter is_call_of is) ++ was_told payload g s heard past ≡ answers (terms_of setup) (is ++ part payload g s past)
-      → was_told payload g s heard (e ∷ past) ≡ answers (terms_of setup) (part payload g s (e ∷ past))
+      → map (λ i. read_near setup payload g s heard e past) (filter is_call_of is) ++ was_told setup payload g s heard past ≡ answers (terms_of setup) (is ++ part payload g s past)
+      → was_told setup payload g s heard (e ∷ past) ≡ answers (terms_of setup) (part payload g s (e ∷ past))
   with-items e past is f q =
-      ap (λ (js : List Item). map (λ i. read_as heard e.reply) (filter is_call_of js) ++ was_told payload g s heard past) f
+      ap (λ (js : List Item). map (λ i. read_near setup payload g s heard e past) (filter is_call_of js) ++ was_told setup payload g s heard past) f
       ∙ (q ∙ ap (λ (js : List Item). answers (terms_of setup) (js ++ part payload g s past)) (sym f))
 
   -- an entry that calls none of its ends
-  calm-step : (e : Entry) (past : List Entry) → EachItem is_no_call (items payload g s e past) → was_told payload g s heard past ≡ answers (terms_of setup) (part payload g s past)
-      → was_told payload g s heard (e ∷ past) ≡ answers (terms_of setup) (part payload g s (e ∷ past))
+  calm-step : (e : Entry) (past : List Entry) → EachItem is_no_call (items payload g s e past) → was_told setup payload g s heard past ≡ answers (terms_of setup) (part payload g s past)
+      → was_told setup payload g s heard (e ∷ past) ≡ answers (terms_of setup) (part payload g s (e ∷ past))
   calm-step e past none before =
-      ap (λ (js : List Item). map (λ i. read_as heard e.reply) js ++ was_told payload g s heard past) (none-called (items payload g s e past) none)
+      ap (λ (js : List Item). map (λ i. read_near setup payload g s heard e past) js ++ was_told setup payload g s heard past) (none-called (items payload g s e past) none)
       ∙ (before ∙ sym (none-answered (terms_of setup) (items payload g s e past) (part payload g s past) none))
 
   -- an entry that calls one, where it is up
   call-step : (e : Entry) (past : List Entry) (end : End) (call : Call) → items payload g s e past ≡ call_on end call s past
-      → (s ≡ end.s → is_up end.side s past ≡ true → read_as heard e.reply ≡ pipe_told (terms_of setup) end.side call (pipe (terms_of setup) (part payload g s past)))
-      → was_told payload g s heard past ≡ answers (terms_of setup) (part payload g s past)
-      → was_told payload g s heard (e ∷ past) ≡ answers (terms_of setup) (part payload g s (e ∷ past))
+      → (s ≡ end.s → is_up end.side s past ≡ true → read_near setup payload g s heard e past ≡ pipe_told (terms_of setup) end.side call (pipe (terms_of setup) (part payload g s past)))
+      → was_told setup payload g s heard past ≡ answers (terms_of setup) (part payload g s past)
+      → was_told setup payload g s heard (e ∷ past) ≡ answers (terms_of setup) (part payload g s (e ∷ past))
   call-step e past end call is answer before = by (s == end.s) (is_up end.side s past) refl refl
     where
       given : (a b : Bool) → (s == end.s) ≡ a → is_up end.side s past ≡ b → items payload g s e past ≡ (if a && b then Calls end.side call ∷ [] else [])
       given a b f u = is ∙ (ap (λ c. if c && is_up end.side s past then Calls end.side call ∷ [] else []) f ∙ ap (λ c. if a && c then Calls end.side call ∷ [] else []) u)
 
-      by : (a b : Bool) → (s == end.s) ≡ a → is_up end.side s past ≡ b → was_told payload g s heard (e ∷ past) ≡ answers (terms_of setup) (part payload g s (e ∷ past))
+      by : (a b : Bool) → (s == end.s) ≡ a → is_up end.side s past ≡ b → was_told setup payload g s heard (e ∷ past) ≡ answers (terms_of setup) (part payload g s (e ∷ past))
       by true true f u = with-items e past (Calls end.side call ∷ []) (given true true f u)
-          (ap (λ (t : Told). t ∷ was_told payload g s heard past) (answer (eqb-true s end.s f) u)
+          (ap (λ (t : Told). t ∷ was_told setup payload g s heard past) (answer (eqb-true s end.s f) u)
           ∙ ap (λ (ts : List Told). pipe_told (terms_of setup) end.side call (pipe (terms_of setup) (part payload g s past)) ∷ ts) before)
       by true false f u = with-items e past [] (given true false f u) before
       by false b f u = with-items e past [] (given false b f u) before
@@ -177,6 +179,11 @@ module _ (setup : Setup) (one : IsOneLink setup) (payload : List ℕ) where
       by None f = absurd (true≢false (sym up ∙ not-up x s past n p f))
       by (Some o) f = grouped setup past (has-offers setup one payload past n p) B s o f ∙ sym is
 
+  near-in : (x : Side) (g s : ℕ) (past : List Entry) (n : ℕ) → IsPlayed setup payload past n → is_up x s past ≡ true → (g ≡ 1) ⊎ (offered B s past ≡ None) → is_near_part (terms_of setup) (part payload g s past) ≡ true
+  near-in x g s past n p up h =
+      let pipes = has-pipe setup payload s past n p (shaken setup one payload past n p) in
+      ap (λ k. is_near_part (terms_of setup) (part payload k s past)) (sym (group-up x g s past n p up h)) ∙ pipes.near
+
   -- a call on an end that is up is told what its pipe tells
   call-told : (end : End) (call : Call) (g s : ℕ) (past : List Entry) (n : ℕ) → IsPlayed setup payload past n → (g ≡ 1) ⊎ (offered B s past ≡ None) → s ≡ end.s → is_up end.side s past ≡ true
       → call_told setup payload end call past ≡ pipe_told (terms_of setup) end.side call (pipe (terms_of setup) (part payload g s past))
@@ -190,7 +197,7 @@ module _ (setup : Setup) (one : IsOneLink setup) (payload : List ℕ) where
   -- and so its reply, read with the bytes handed out, says
   answered : (e : Entry) (past : List Entry) (n : ℕ) (p : IsPlayed setup payload (e ∷ past) n) (end : End) (call : Call) → told setup payload past e.event ≡ call_told setup payload end call past → is_transfer call ≡ true
       → (g s : ℕ) → (g ≡ 1) ⊎ (offered B s past ≡ None) → (heard later : List ℕ) → heard ≡ all_bytes setup payload (e ∷ past) ++ later → s ≡ end.s → is_up end.side s past ≡ true
-      → read_as heard e.reply ≡ pipe_told (terms_of setup) end.side call (pipe (terms_of setup) (part payload g s past))
+      → read_near setup payload g s heard e past ≡ pipe_told (terms_of setup) end.side call (pipe (terms_of setup) (part payload g s past))
   answered e past n p end call event transfer g s h heard later f at up =
       let made = p.1 in
       let q = pipe (terms_of setup) (part payload g s past) in
@@ -198,12 +205,13 @@ module _ (setup : Setup) (one : IsOneLink setup) (payload : List ℕ) where
       let none : names_none (told setup payload past e.event) ≡ true =
       ap (λ t. names_none t) is ∙ half-names-none (terms_of setup).size call (half end.side q) (half (other end.side) q).out (cause_of (half end.side q).phase) transfer in
       let long : p.0 ≡ length (all_bytes setup payload past) = sym (heard-long setup payload past p.0 p.3 (all_bytes setup payload past) (all-heard setup payload past)) in
-      ap (λ r. read_as heard r) made.reply ∙ (told-again heard (all_bytes setup payload past) later p.0 (told setup payload past e.event) none long f ∙ is)
+      ap (λ b. as_claimed b (read_as heard e.reply)) (near-in end.side g s past p.0 p.3 up h) ∙ claimed-whole (read_as heard e.reply)
+      ∙ (ap (λ r. read_as heard r) made.reply ∙ (told-again heard (all_bytes setup payload past) later p.0 (told setup payload past e.event) none long f ∙ is))
 
   by-event : (g s actor : ℕ) (posts : List Post) (past : List Entry) (n : ℕ) (heard later : List ℕ) (event : Event) (reply : Reply) → IsPlayed setup payload (entry-of actor event reply posts ∷ past) n
       → (g ≡ 1) ⊎ (offered B s past ≡ None) → heard ≡ all_bytes setup payload (entry-of actor event reply posts ∷ past) ++ later
-      → was_told payload g s heard past ≡ answers (terms_of setup) (part payload g s past)
-      → was_told payload g s heard (entry-of actor event reply posts ∷ past) ≡ answers (terms_of setup) (part payload g s (entry-of actor event reply posts ∷ past))
+      → was_told setup payload g s heard past ≡ answers (terms_of setup) (part payload g s past)
+      → was_told setup payload g s heard (entry-of actor event reply posts ∷ past) ≡ answers (terms_of setup) (part payload g s (entry-of actor event reply posts ∷ past))
   by-event g s actor posts past n heard later (Write end at len) reply p h f before =
       let e : Entry = entry-of actor (Write end at len) reply posts in
       let is = only-call e past n p (quiet-write actor past end at len reply) refl (by-side (λ x. (s : ℕ) → leaves_handshake x s (Write end at len) reply ≡ false) (λ s. refl) (λ s. refl)) g s in
@@ -229,7 +237,7 @@ module _ (setup : Setup) (one : IsOneLink setup) (payload : List ℕ) where
   earlier g s e past n p (inr none) = let h = shaken setup one payload (e ∷ past) n p in let q = h.1 in let r = q.1 in inr (not-before setup payload B s e past r.0 none)
 
   told-so-far : (g s : ℕ) (past : List Entry) (n : ℕ) → IsPlayed setup payload past n → (g ≡ 1) ⊎ (offered B s past ≡ None) → (heard later : List ℕ) → heard ≡ all_bytes setup payload past ++ later
-      → was_told payload g s heard past ≡ answers (terms_of setup) (part payload g s past)
+      → was_told setup payload g s heard past ≡ answers (terms_of setup) (part payload g s past)
   told-so-far g s [] n p h heard later f = refl
   told-so-far g s (e ∷ past) n p h heard later f =
       let now = told_bytes (told setup payload past e.event) in
@@ -243,14 +251,14 @@ module _ (setup : Setup) (one : IsOneLink setup) (payload : List ℕ) where
 
   -- what the calls of a connection were told is what its pipe tells
   pub told-by-pipes : (past : List Entry) (n : ℕ) → IsPlayed setup payload past n → (heard : List ℕ) → heard ≡ all_bytes setup payload past → (s : ℕ)
-      → was_told payload (group_on s past) s heard past ≡ answers_on setup payload s past
+      → was_told setup payload (group_on s past) s heard past ≡ answers_on setup payload s past
   told-by-pipes past n p heard f s =
       told-so-far (group_on s past) s past n p (in-group s past n p (offered B s past) refl) heard [] (f ∙ sym (append-nil (all_bytes setup payload past)))
 
 -- and so the same in any two worlds, where terms and parts are equal
 pub told-alike : (t u : Setup) → IsOneLink t → IsOneLink u → (p q : List ℕ) (past past2 : List Entry) (n m : ℕ) → IsPlayed t p past n → IsPlayed u q past2 m → (s r : ℕ) → terms_of t ≡ terms_of u
     → part p (group_on s past) s past ≡ part q (group_on r past2) r past2
-    → was_told p (group_on s past) s (all_bytes t p past) past ≡ was_told q (group_on r past2) r (all_bytes u q past2) past2
+    → was_told t p (group_on s past) s (all_bytes t p past) past ≡ was_told u q (group_on r past2) r (all_bytes u q past2) past2
 told-alike t u one two p q past past2 n m f g s r same_terms same_parts =
     told-by-pipes t one p past n f (all_bytes t p past) refl s
     ∙ (ap (λ (is : List Item). answers (terms_of t) is) same_parts ∙ (ap (λ terms. answers terms (part q (group_on r past2) r past2)) same_terms

@@ -25,7 +25,8 @@ use Rattle.pipe_model.specs.Pipe.{Item, Calls, Lands, Completes}
 use Rattle.pipe_model.specs.Connections.{is_up, call_on, is_own, if_own}
 use Rattle.pipe_model.specs.Replies.{told, lands_told, deliver_told}
 use Rattle.pipe_model.specs.Lawful.{reply_of}
-use Rattle.world_core.specs.Played.{IsBuilt, IsMade}
+use Rattle.pipe_model.specs.Fits.{Fits}
+use Rattle.world_core.specs.Played.{IsMade}
 use Rattle.world_core.specs.OneLink.{the_link}
 use Rattle.world_core.specs.Wired.{EachItem, passes_by}
 use Rattle.world_core.specs.WireSteps.{Way}
@@ -151,7 +152,7 @@ module _ (payload : List ℕ) (past : List Entry) (e : Entry) where
   complete-way x d reply r (inl n) = subst (λ q. WayAs x (Complete 1 d) q) (sym (r ∙ ap (λ o. completed_told o) n)) (idle-complete x d)
   complete-way x d reply r (inr f) = subst (λ q. WayAs x (Complete 1 d) q) (sym (r ∙ ap (λ o. completed_told o) f.is)) (completed-way x d f)
 
-  way-as : (setup : Setup) (before : ℕ) (x : Side) (event : Event) (reply : Reply) → IsOnlyLink past → IsBuilt setup (length payload) event → reply ≡ reply_of before (told setup payload past event) → WayAs x event reply
+  way-as : (setup : Setup) (before : ℕ) (x : Side) (event : Event) (reply : Reply) → IsOnlyLink past → Fits setup (length payload) event → reply ≡ reply_of before (told setup payload past event) → WayAs x event reply
   way-as setup before x (Open s) reply o b r = inl (record { leaves = if-zero the_link past; lands = if-zero the_link past; completes = if-zero the_link past }, λ t. tt)
   way-as setup before x (Clc s dir) reply o b r = inl (record { leaves = if-zero the_link past; lands = if-zero the_link past; completes = if-zero the_link past }, λ t. tt)
   way-as setup before x (Write end at len) reply o b r = inl (record { leaves = if-zero the_link past; lands = if-zero the_link past; completes = if-zero the_link past }, λ t. call-items (passes_by x) end (Writes (take len (drop at payload))) t past refl)

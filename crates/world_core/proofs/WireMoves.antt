@@ -22,7 +22,8 @@ use Rattle.pipe_model.specs.Replies.{told, lands_told, deliver_told}
 use Rattle.pipe_model.specs.Lawful.{reply_of}
 use Rattle.rc_link.specs.declared.Carried.{Carried}
 use Rattle.rc_link.specs.Wire.{Queues, placed, landing as next_landing, completing as next_completing, with_landed, with_completed}
-use Rattle.world_core.specs.Played.{IsOneLink, IsBuilt, IsMade, IsPlayed}
+use Rattle.pipe_model.specs.Fits.{Fits}
+use Rattle.world_core.specs.Played.{IsOneLink, IsMade, IsPlayed}
 use Rattle.world_core.specs.OneLink.{the_link}
 use Rattle.world_core.specs.WireSteps.{Stays, LandsNow, CompletesNow, Way}
 use Rattle.world_core.specs.Agreement.{IsOnlyLink}
@@ -224,7 +225,7 @@ module _ (setup : Setup) (one : IsOneLink setup) (payload : List ℕ) (past : Li
     calls-move x event reply f g m (inr (inl v)) = let l = v.0 in absurd (never the_link past (leaves x 1 event reply) f l.leaves)
     calls-move x event reply f g m (inr (inr v)) = let l = v.0 in absurd (never the_link past (completes_on x 1 event reply) g l.completes)
 
-    moving-as : (x : Side) (wire : IsWireAfter setup payload x past w) (event : Event) (reply : Reply) → IsBuilt setup (length payload) event → reply ≡ reply_of before (told setup payload past event) → Way payload the_link x (As event reply) past → Moving x (As event reply) past w
+    moving-as : (x : Side) (wire : IsWireAfter setup payload x past w) (event : Event) (reply : Reply) → Fits setup (length payload) event → reply ≡ reply_of before (told setup payload past event) → Way payload the_link x (As event reply) past → Moving x (As event reply) past w
     moving-as x wire (Open s) reply b r v = calls-move x (Open s) reply refl refl refl v
     moving-as x wire (Clc s dir) reply b r v = calls-move x (Clc s dir) reply refl refl refl v
     moving-as x wire (Write end at len) reply b r v = calls-move x (Write end at len) reply refl refl refl v

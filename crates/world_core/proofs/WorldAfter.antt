@@ -20,7 +20,8 @@ use Rattle.pipe_model.specs.declared.event.Event.TheVariants.{Open}
 use Rattle.pipe_model.specs.declared.reply.Reply.{Reply}
 use Rattle.pipe_model.specs.declared.reply.Reply.TheVariants.{Opened}
 use Rattle.world_core.specs.declared.host.Host.{Host}
-use Rattle.world_core.specs.Played.{IsBuilt, IsPlayed, handed}
+use Rattle.pipe_model.specs.Fits.{Fits}
+use Rattle.world_core.specs.Played.{IsPlayed, handed}
 use Rattle.world_core.specs.Heard.{told_bytes, all_bytes}
 use Rattle.world_core.specs.Steps.{Seen, past, entry_of, refusal, reply_to, stepped, told_by, opened_socket, opening_order}
 use Rattle.world_core.specs.declared.moment.Moment.{Moment}
@@ -59,7 +60,7 @@ few-opened (e ∷ es) = let f = few-opened es in let o = one-opened e.event e.re
     omega (arith, f, o, all)
 
 -- and it is a known one
-known-opened : (setup : Setup) (payload : ℕ) (event : Event) (reply : Reply) → IsBuilt setup payload event → All (λ s. s < setup.sockets) (option_to_list (opened_socket event reply))
+known-opened : (setup : Setup) (payload : ℕ) (event : Event) (reply : Reply) → Fits setup payload event → All (λ s. s < setup.sockets) (option_to_list (opened_socket event reply))
 known-opened setup payload (Open s) Opened b = All-cons (λ x. x < setup.sockets) s [] b (All-nil (λ x. x < setup.sockets))
 known-opened setup payload _ _ b = All-nil (λ x. x < setup.sockets)
 

@@ -34,7 +34,7 @@ use Rattle.world_core.specs.declared.host.Outflow.{Outflow}
 use Rattle.world_core.specs.declared.moment.Moment.{Moment}
 use Rattle.world_core.specs.Managers.{records_of, end_of}
 use Rattle.world_core.specs.Landed.{buffer_of}
-use Rattle.world_core.specs.Played.{IsBuilt}
+use Rattle.pipe_model.specs.Fits.{Fits}
 use Rattle.world_core.specs.Sending.{outflow_at}
 use Rattle.world_core.specs.Hosts.{AreHosts, IsPlayedBy, IsStreamAfter, past_of, wire_at}
 use Rattle.world_core.specs.Calling.{MayCall, IsCalledAt}
@@ -68,7 +68,7 @@ module _ (at : Moment) (end : End) (place len : ℕ) (own theirs : Host) (hosts 
   abbrev Taken_in : List ℕ
   Taken_in = take len (drop place at.payload.now)
 
-  built : IsBuilt at.setup.now (length at.payload.now) Told_by
+  built : Fits at.setup.now (length at.payload.now) Told_by
   built = (socket, within)
 
   few-past : length Past < 2 ^ 18

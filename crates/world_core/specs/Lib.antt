@@ -5,7 +5,6 @@ pub mod Goings
 pub mod Handing
 pub mod Heard
 pub mod Hosts
-pub mod Lacking
 pub mod Landed
 pub mod LawfulWorlds
 pub mod Leaving

@@ -1,28 +1,19 @@
 //! The histories that a world of one link makes are lawful. Each law is a function with nothing to do,
 //! whose contract is the law.
 
-ghost use Rattle.std.specs.Prelude.{◌≡◌, ◌⊎◌, ℕ, List, ◌∷◌, length, None, Some, true};
+ghost use Rattle.std.specs.Prelude.{◌≡◌, ◌⊎◌, ℕ, List, ◌∷◌, length, None, true};
 ghost use Rattle.smc_num.specs.declared.Side.{Side as Peer};
 ghost use Rattle.pipe_model.specs.declared.setup.Setup.{Setup as Conditions};
 ghost use Rattle.pipe_model.specs.declared.entry.Entry.{Entry as Record};
-ghost use Rattle.smc_num.specs.declared.LinkId.{LinkId as Link};
-ghost use Rattle.smc_num.specs.Names.{other};
-ghost use Rattle.cdc_wire.specs.declared.CdcMessage.{CdcMessage as Message};
-ghost use Rattle.pipe_model.specs.declared.post.Post.{Post as Posted};
-ghost use Rattle.pipe_model.specs.declared.post.Post.TheVariants.{Write};
-ghost use Rattle.pipe_model.specs.declared.post.PostRef.{PostRef as Place};
 ghost use Rattle.pipe_model.specs.declared.event.Event.{Event as Asked};
-ghost use Rattle.pipe_model.specs.declared.event.Event.TheVariants.{Deliver};
-ghost use Rattle.pipe_model.specs.History.{post_at};
 ghost use Rattle.pipe_model.specs.Keys.{AreBound, keys_of, no_keys};
-ghost use Rattle.pipe_model.specs.Lending.{IsLent};
-ghost use Rattle.pipe_model.specs.Home.{LandsHome, IsHome, following_cdc};
+ghost use Rattle.pipe_model.specs.Lending.{RelendsOnlyDone};
+ghost use Rattle.pipe_model.specs.Home.{LandsHome};
 ghost use Rattle.pipe_model.specs.Lawful.{IsLawfulPast, claims_bytes};
 ghost use Rattle.pipe_model.specs.declared.reply.Lack.{Lack};
-ghost use Rattle.pipe_model.specs.declared.reply.Reply.TheVariants.{Declined, Landed};
-ghost use Rattle.world_core.specs.Lacking.{IsLacking};
+ghost use Rattle.pipe_model.specs.declared.reply.Reply.TheVariants.{Declined};
 ghost use Rattle.world_core.specs.Heard.{IsHeard, all_bytes};
-ghost use Rattle.pipe_model.specs.Causes.{kept_cause, CausesAreShown};
+ghost use Rattle.pipe_model.specs.Causes.{IsLacking, kept_cause, CausesAreShown};
 ghost use Rattle.pipe_model.specs.Wires.{unlanded};
 ghost use Rattle.world_core.specs.OneLink.{the_link, the_keys};
 ghost use Rattle.world_core.specs.WireSteps.{EachPlaced};
@@ -49,7 +40,7 @@ pub fn no_end_is_reset()
 /// No element is lent again before each earlier connection that it was lent to is done with.
 pub fn no_element_is_lent_again_too_early()
     ensures { (setup : Conditions) → IsOneLink setup → (payload : List ℕ) (e : Record) (past : List Record) (n : ℕ)
-        → IsPlayed setup payload (e ∷ past) n → (x : Peer) → IsLent x e past }
+        → IsPlayed setup payload (e ∷ past) n → (x : Peer) → RelendsOnlyDone x e past }
 {}
 
 /// Each write that waits to land goes into the element that the peer offered to its connection, under
@@ -65,15 +56,6 @@ pub fn each_write_under_way_is_directed()
 pub fn each_write_lands_home()
     ensures home { (setup : Conditions) → IsOneLink setup → (payload : List ℕ) (e : Record) (past : List Record) (n : ℕ)
         → IsPlayed setup payload (e ∷ past) n → LandsHome setup payload e.event e.reply past }
-    ensures stands { (setup : Conditions) → IsOneLink setup → (payload : List ℕ) (e : Record) (past : List Record) (n : ℕ)
-        → IsPlayed setup payload (e ∷ past) n → (slot : ℕ) (dir : Peer) (at : Place) → e.event ≡ Deliver slot dir
-        → e.reply ≡ Landed at → (post : Posted) × (post_at at past ≡ Some post) }
-    ensures followed { (setup : Conditions) → IsOneLink setup → (payload : List ℕ) (e : Record) (past : List Record) (n : ℕ)
-        → IsPlayed setup payload (e ∷ past) n → (slot : ℕ) (dir : Peer) (at : Place) → e.event ≡ Deliver slot dir
-        → e.reply ≡ Landed at → (from : Peer) (link : Link) (key address len : ℕ)
-        → post_at at past ≡ Some (Write from link key address len)
-        → (m : Message) × ((following_cdc at past ≡ Some m)
-        × IsHome setup payload (other from) link key address len m.token past) }
 {}
 
 /// Every history that is played is lawful, with any bytes that its answers may have handed out.
@@ -97,9 +79,9 @@ pub fn what_is_heard_are_the_bytes_of_the_answers()
         → IsPlayed setup payload past n → (heard : List ℕ) → IsHeard setup payload past heard → length heard ≡ n }
 {}
 
-/// What is declined is declined for a named lack that holds: not both sides are capable, they are in
-/// different subnets, or no element of a side is free.
+/// What is declined is declined for a named lack that holds before the entry, by the message that is
+/// taken where it is one.
 pub fn a_lack_is_named_only_where_it_holds()
-    ensures { (setup : Conditions) → IsOneLink setup → (payload : List ℕ) (e : Record) (past : List Record) (n : ℕ)
-        → IsPlayed setup payload (e ∷ past) n → (lack : Lack) → e.reply ≡ Declined lack → IsLacking setup payload past lack }
+    ensures { (setup : Conditions) (payload : List ℕ) (e : Record) (past : List Record) (n : ℕ)
+        → IsPlayed setup payload (e ∷ past) n → (lack : Lack) → e.reply ≡ Declined lack → IsLacking setup payload e.event past lack }
 {}

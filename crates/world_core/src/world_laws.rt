@@ -39,14 +39,15 @@ pub fn a_lawful_world_has_a_lawful_history()
 pub fn calls_were_told_by_their_pipes()
     ensures { (setup : Conditions) → IsOneLink setup → (payload : List ℕ) (past : List Record) (n : ℕ)
         → IsPlayed setup payload past n → (heard : List ℕ) → heard ≡ all_bytes setup payload past → (s : ℕ)
-        → was_told payload (group_on s past) s heard past ≡ answers_on setup payload s past }
+        → was_told setup payload (group_on s past) s heard past ≡ answers_on setup payload s past }
 {}
 
 /// The law of two worlds: where two connections, in any two histories, have equal terms and equal
-/// parts, their calls were told the same, whatever else happened in the two worlds.
+/// parts, their calls were told the same, whatever else happened in the two worlds; bytes as far as they
+/// are claimed, and here all are.
 pub fn equal_parts_were_told_the_same()
     ensures { (t u : Conditions) → IsOneLink t → IsOneLink u → (p q : List ℕ) (past past2 : List Record) (n m : ℕ)
         → IsPlayed t p past n → IsPlayed u q past2 m → (s r : ℕ) → terms_of t ≡ terms_of u
         → part p (group_on s past) s past ≡ part q (group_on r past2) r past2
-        → was_told p (group_on s past) s (all_bytes t p past) past ≡ was_told q (group_on r past2) r (all_bytes u q past2) past2 }
+        → was_told t p (group_on s past) s (all_bytes t p past) past ≡ was_told u q (group_on r past2) r (all_bytes u q past2) past2 }
 {}
