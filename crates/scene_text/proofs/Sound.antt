@@ -11,7 +11,7 @@ use Rattle.pipe_model.specs.declared.setup.Room.{Room}
 use Rattle.pipe_model.specs.Words.{rmbs_of, elements_of}
 use Rattle.pipe_model.specs.declared.event.Event.{Event}
 use Rattle.pipe_model.specs.declared.event.Event.TheVariants.{Open, Raw, Write, Read, Finish, Close, Abort, Await, Clc, Deliver, Complete, Swallow, Cut, Heal, Report, Move, Grow, Test, Trim}
-use Rattle.pipe_model.specs.Settings.{default_setup, default_room}
+use Rattle.pipe_model.specs.Settings.{default_room}
 use Rattle.pipe_model.specs.Fits.{Fits}
 use Rattle.scene_text.specs.declared.faults.LineKind.{LineKind}
 use Rattle.scene_text.specs.declared.grammar.Command.{Command}
@@ -21,7 +21,7 @@ use Rattle.scene_text.specs.declared.scenes.SceneWhat.{SceneWhat}
 use Rattle.scene_text.specs.declared.scenes.SceneWhat.TheVariants.{One, Pump}
 use Rattle.scene_text.specs.declared.scenes.SceneLine.{SceneLine}
 use Rattle.scene_text.specs.Words.{◌>>=◌, NamedEnd, number_in, name_of, side_in, end_of, runs_of, bytes_in}
-use Rattle.scene_text.specs.Scenes.{PlainScene, empty_scene, socket_of, mentioned, with_line, opens, pumps, writes, reads, clcs, delivers, completes, with_sockets, WhatFits, LineFits, IsWithinLimits, IsSubnet, subnet_at, IsInRange, IsSound}
+use Rattle.scene_text.specs.Scenes.{PlainScene, built_setup, empty_scene, socket_of, mentioned, with_line, opens, pumps, writes, reads, clcs, delivers, completes, with_sockets, WhatFits, LineFits, IsWithinLimits, IsSubnet, subnet_at, IsInRange, IsSound}
 use Rattle.scene_text.specs.Settings.{PlainDraft, empty_draft}
 use Rattle.scene_text.specs.Grammar.{command_of, row_of, limited, line_done, after_lines}
 use Rattle.scene_text.proofs.Mentions.{socket_within}
@@ -30,7 +30,7 @@ use Rattle.scene_text.proofs.Reading.{not_passed, lines_keep, lines_within}
 
 -- the setup of a scene with so many names
 abbrev of_names : ℕ → Setup
-of_names n = record default_setup { sockets = n }
+of_names n = record built_setup { sockets = n }
 
 -- what each line keeps; the number of sockets is still to be set
 record IsKept (scene : PlainScene) : Type 0 where
@@ -191,19 +191,19 @@ set_kept : (scene after : PlainScene) → Changes scene after → IsKept scene �
 set_kept scene after changes kept = subst IsKept changes.same (record { settings = changes.ranged kept.settings; lines = kept.lines })
 
 -- the defaults are in their ranges
-default_subnet : (x : Side) → IsSubnet (subnet_at default_setup x)
+default_subnet : (x : Side) → IsSubnet (subnet_at built_setup x)
 default_subnet A = (omega arith, refl)
 default_subnet B = (omega arith, refl)
 
-default_rmbs : (x : Side) → (1 ≤ rmbs_of default_setup x) × (rmbs_of default_setup x ≤ MOST_RMBS)
+default_rmbs : (x : Side) → (1 ≤ rmbs_of built_setup x) × (rmbs_of built_setup x ≤ MOST_RMBS)
 default_rmbs A = (omega arith, omega arith)
 default_rmbs B = (omega arith, omega arith)
 
-default_elements : (x : Side) → (1 ≤ elements_of default_setup x) × (elements_of default_setup x ≤ MOST_ELEMENTS)
+default_elements : (x : Side) → (1 ≤ elements_of built_setup x) × (elements_of built_setup x ≤ MOST_ELEMENTS)
 default_elements A = (omega arith, omega arith)
 default_elements B = (omega arith, omega arith)
 
-defaults : IsInRange default_setup default_room
+defaults : IsInRange built_setup default_room
 defaults = record { subnet = default_subnet; links = refl; size = omega arith; rmbs = default_rmbs; elements = default_elements; depth = (omega arith, omega arith); number = (omega arith, omega arith); sockets = (omega arith, omega arith); entries = (omega arith, omega arith); bytes = (omega arith, omega arith) }
 
 empty_kept : IsKept empty_scene

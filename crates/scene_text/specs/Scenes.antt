@@ -46,9 +46,14 @@ plain scene = record {
   payload = scene.payload.items;
 }
 
+-- the setup of a scene that sets nothing: the default one, but with the one slot and the one RMB a side that are built. It goes as
+-- more is built
+abbrev pub built_setup : Setup
+built_setup = record default_setup { links = 1; rmbs = 1 ∷ 1 ∷ [] }
+
 -- the scene of a text without lines
 abbrev pub empty_scene : PlainScene
-empty_scene = record { setup = default_setup; room = default_room; names = []; actors = []; lines = []; payload = [] }
+empty_scene = record { setup = built_setup; room = default_room; names = []; actors = []; lines = []; payload = [] }
 
 -- the number of a socket: where its name stands, or where it goes
 abbrev pub socket_of : List (List ℕ) → List ℕ → ℕ

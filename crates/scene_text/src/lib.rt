@@ -14,7 +14,7 @@ mod words;
 
 pub use faults::{LineFault, LineKind, SceneFault};
 pub use grammar::{are_printable, fault_at, is_passed_over, read_scene, without_return};
-pub use scenes::{Scene, SceneLine, SceneWhat};
+pub use scenes::{Scene, SceneLine, SceneWhat, built_setup};
 pub use words::{byte_of, cut, words_of};
 
 #[cfg(test)]

@@ -3,7 +3,7 @@
 ghost use Rattle.std.specs.Prelude.{◌≡◌, ◌≤◌, ◌+◌, ◌++◌, length, map, IfOk, IfErr, OnOk, Some, None, nat_le, if◌then◌else◌};
 ghost use Rattle.scene_text.specs.declared.faults.LineFault.TheVariants.{NoMemory as NoRoom};
 ghost use Rattle.scene_text.specs.Words.{named_end, bytes_in};
-ghost use Rattle.scene_text.specs.Scenes.{plain, names_in, empty_scene, socket_of, mentioned, with_name, with_line, opens, pumps, writes, reads, clcs, delivers, completes, with_sockets, limit_passed, unless_passed, within_limits, Makes, IsWithinLimits};
+ghost use Rattle.scene_text.specs.Scenes.{built_setup, plain, names_in, empty_scene, socket_of, mentioned, with_name, with_line, opens, pumps, writes, reads, clcs, delivers, completes, with_sockets, limit_passed, unless_passed, within_limits, Makes, IsWithinLimits};
 
 use crate::faults::LineFault;
 use crate::limits::{MOST_EVENT_LINES, MOST_NAMES, MOST_PAYLOAD_BYTES};
@@ -82,13 +82,25 @@ fn push_runs(bytes: &mut Vec<u8>, runs: &[Run]) -> Result<(), AllocError>
     Ok(())
 }
 
+/// The setup of a scene that sets nothing: the default one, but with the one slot and the one RMB a
+/// side that are built. It goes as more is built.
+pub fn built_setup() -> Setup
+    ensures { result ≡ built_setup }
+{
+    Setup {
+        links: 1,
+        rmbs: [1, 1],
+        ..Setup::default()
+    }
+}
+
 impl Scene {
     /// A scene without lines.
     pub(crate) fn empty(alloc: Global) -> Scene
         ensures { plain result ≡ empty_scene }
     {
         Scene {
-            setup: Setup::default(),
+            setup: built_setup(),
             room: Room::default(),
             names: IndexMap::new(alloc),
             actors: Vec::new(alloc),

@@ -162,7 +162,7 @@ fn scenes(rt: HostRuntime) -> Result<(), Fail> {
         scene.setup,
         Setup {
             sockets: 1,
-            ..Setup::default()
+            ..built_setup()
         }
     );
 
@@ -193,7 +193,7 @@ fn settings(rt: HostRuntime) -> Result<(), Fail> {
         size_code: 5,
         elements: [4, 32],
         number: 65_535,
-        ..Setup::default()
+        ..built_setup()
     };
     assert_eq!(rt; scene.setup, setup);
     let room = Room {

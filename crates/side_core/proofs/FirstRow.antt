@@ -7,7 +7,6 @@ use Rattle.llc_wire.specs.declared.LlcMessage.{LlcMessage}
 use Rattle.pipe_model.specs.declared.flow.FlowStep.{FlowStep}
 use Rattle.pipe_model.specs.declared.flow.LinkView.{LinkView}
 use Rattle.pipe_model.specs.Flows.{flow_step}
-use Rattle.pipe_model.specs.Settings.{default_setup}
 use Rattle.pipe_model.specs.Messages.{confirm_link}
 use Rattle.pipe_model.specs.Ends.{fresh}
 use Rattle.conn_end.specs.Kept.{Kept}
@@ -16,7 +15,7 @@ use Rattle.side_core.specs.Manager.{Manager, StandsFor}
 use Rattle.side_core.specs.Taking.{MayTake}
 use Rattle.side_core.specs.Acting.{IsSoundAt, MayConfirm, confirms_link}
 use Rattle.side_core.specs.Landing.{CanMake}
-use Rattle.side_core.specs.FirstRow.{first_link, paths, proposed, a_offer, b_offer, a_open, a_confirmed, a_linked, b_open, b_accepted, b_made, b_ready, b_linked}
+use Rattle.side_core.specs.FirstRow.{first_setup, first_link, paths, proposed, a_offer, b_offer, a_open, a_confirmed, a_linked, b_open, b_accepted, b_made, b_ready, b_linked}
 use Rattle.side_core.proofs.Carries.{IsSoundHalf, Confirms, take_kept, sound_kept, first_sound_kept, make_kept, confirm_kept, confirm_step}
 
 -- the Proposal may be taken
@@ -63,11 +62,11 @@ view = record { path_up = true; stands_here = true; stands_there = true }
 
 -- CONFIRM LINK
 abbrev pub asked : LlcMessage
-asked = confirm_link default_setup B false first_link 17
+asked = confirm_link first_setup B false first_link 17
 
 -- the reply to it
 abbrev pub answered : LlcMessage
-answered = confirm_link default_setup A true first_link 17
+answered = confirm_link first_setup A true first_link 17
 
 -- it may land
 asked_confirms : Confirms true asked view first_link a_confirmed

@@ -1,4 +1,4 @@
--- The first worked row: one connection of the default peers, which first contact establishes and on which two bytes go.
+-- The first worked row: one connection of two peers with one slot and one RMB each, which first contact establishes and on which two bytes go.
 -- A reader learns here for which plain manager each side stands after each of its calls.
 use Rattle.std.specs.Prelude.{true, false, List, Bool, [], ◌∷◌, Some}
 use Rattle.smc_num.specs.declared.Side.TheVariants.{A, B}
@@ -11,6 +11,7 @@ use Rattle.clc_wire.specs.declared.message.ClcMessage.TheVariants.{Proposal, Acc
 use Rattle.pipe_model.specs.declared.flow.FlowStep.TheVariants.{Live}
 use Rattle.pipe_model.specs.declared.snapshot.Snapshot.{Snapshot}
 use Rattle.pipe_model.specs.declared.sent.Sent.{Sent}
+use Rattle.pipe_model.specs.declared.setup.Setup.{Setup}
 use Rattle.pipe_model.specs.Settings.{default_setup}
 use Rattle.pipe_model.specs.Messages.{proposal, offer}
 use Rattle.pipe_model.specs.Ends.{Half, takes, completes}
@@ -20,6 +21,10 @@ use Rattle.side_core.specs.Manager.{Manager, new_manager}
 use Rattle.side_core.specs.Taking.{takes_message, with_desk}
 use Rattle.side_core.specs.Acting.{acts_at, bytes_land, call_of, confirms_link}
 use Rattle.side_core.specs.Landing.{opens_at}
+
+-- the default peers, but with the one slot and the one RMB a side that are built
+abbrev pub first_setup : Setup
+first_setup = record default_setup { links = 1; rmbs = 1 ∷ 1 ∷ [] }
 
 -- the link of first contact
 abbrev pub first_link : LinkId
@@ -31,7 +36,7 @@ paths = true ∷ []
 
 -- the Proposal
 abbrev pub proposed : ClcMessage
-proposed = Proposal (proposal default_setup)
+proposed = Proposal (proposal first_setup)
 
 -- the first element of an RMB, which each side offers
 abbrev pub element : Place
@@ -39,11 +44,11 @@ element = record { rmb = 1; index = 1 }
 
 -- the server's offer
 abbrev pub b_offer : Offer
-b_offer = offer default_setup B true first_link 17 513 element 1
+b_offer = offer first_setup B true first_link 17 513 element 1
 
 -- the client's
 abbrev pub a_offer : Offer
-a_offer = offer default_setup A true first_link 17 257 element 1
+a_offer = offer first_setup A true first_link 17 257 element 1
 
 -- the snapshot of the client's one CDC message, behind its two bytes, and the message
 abbrev pub a_told : Snapshot
@@ -61,7 +66,7 @@ b_sent = record { link = first_link; check = false; from = 0; snapshot = b_told 
 
 -- the client, call by call: it opens, takes the Accept, takes CONFIRM LINK, writes, takes the server's CDC message, and its own completes
 abbrev pub a_open : Manager Half
-a_open = opens_at 0 false (new_manager A default_setup)
+a_open = opens_at 0 false (new_manager A first_setup)
 
 abbrev pub a_confirmed : Manager Half
 a_confirmed = takes_message 0 (Accept b_offer) first_link paths a_open
@@ -81,7 +86,7 @@ a_done = acts_at 0 (completes (Some a_sent)) a_heard
 -- the server, call by call: it opens, takes the Proposal, has the link, takes the Confirm, takes the reply to CONFIRM LINK, has the
 -- bytes, takes the client's CDC message, reads, and its own completes
 abbrev pub b_open : Manager Half
-b_open = opens_at 0 false (new_manager B default_setup)
+b_open = opens_at 0 false (new_manager B first_setup)
 
 abbrev pub b_accepted : Manager Half
 b_accepted = takes_message 0 proposed no_link paths b_open

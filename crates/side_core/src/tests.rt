@@ -1,9 +1,9 @@
 //! Each call that needs no message, once; and the calls of the first worked row on the two sides, message by
 //! message. Each of the row's helpers is one call, which takes a side from one plain manager of
 //! `specs/FirstRow` to the next.
-ghost use Rattle.std.specs.Prelude.{IfOk};
+ghost use Rattle.std.specs.Prelude.{◌≡◌, IfOk};
 ghost use Rattle.side_core.specs.Manager.{StandsFor};
-ghost use Rattle.side_core.specs.FirstRow.{a_open, a_confirmed, a_linked, a_wrote, a_heard, a_done, b_open, b_accepted, b_made, b_ready, b_linked, b_landed, b_heard, b_read, b_done};
+ghost use Rattle.side_core.specs.FirstRow.{first_setup, a_open, a_confirmed, a_linked, a_wrote, a_heard, a_done, b_open, b_accepted, b_made, b_ready, b_linked, b_landed, b_heard, b_read, b_done};
 
 use crate::messages;
 use crate::side::SideCore;
@@ -177,11 +177,22 @@ const READ_PLAIN: Snapshot = Snapshot {
 // What a call posts.
 type Posts = ArrayVec<Post, 6>;
 
+// The default peers, but with the one slot and the one RMB a side that are built.
+fn setup() -> Setup
+    ensures { result ≡ first_setup }
+{
+    Setup {
+        links: 1,
+        rmbs: [1, 1],
+        ..Setup::default()
+    }
+}
+
 // The client, whose end waits for an answer.
 fn client(alloc: Global) -> Result<SideCore, NoMemory>
     ensures { IfOk result (λ a. StandsFor a a_open) }
 {
-    let mut a = SideCore::new(alloc, Side::A, &Setup::default())?;
+    let mut a = SideCore::new(alloc, Side::A, &setup())?;
     a.open(0, false, &mut Posts::new());
     Ok(a)
 }
@@ -190,7 +201,7 @@ fn client(alloc: Global) -> Result<SideCore, NoMemory>
 fn server(alloc: Global) -> Result<SideCore, NoMemory>
     ensures { IfOk result (λ b. StandsFor b b_open) }
 {
-    let mut b = SideCore::new(alloc, Side::B, &Setup::default())?;
+    let mut b = SideCore::new(alloc, Side::B, &setup())?;
     b.open(0, false, &mut Posts::new());
     Ok(b)
 }
@@ -200,7 +211,7 @@ fn accept(b: &mut SideCore) -> (Reply, Posts)
     requires { StandsFor b.old b_open }
     ensures { StandsFor b.new b_accepted }
 {
-    let message = ClcMessage::Proposal(messages::proposal(&Setup::default()));
+    let message = ClcMessage::Proposal(messages::proposal(&setup()));
     let mut posts = Posts::new();
     let reply = b.take_clc(0, &message, None, &[true], &mut posts);
     (reply, posts)

@@ -8,4 +8,4 @@ use Rattle.side_core.specs.FirstRow.{paths, b_open}
 use Rattle.side_core.proofs.tests.accept.Goals as goal
 
 pub returns : goal.returns
-returns c = subst (λ p. StandsFor c.take_clc-reply.new.self (takes_message 0 (Proposal p) no_link paths b_open)) (c.proposal.ensures ∙ ap proposal c.default.ensures) (c.take_clc-reply.ensures.side b_open c.requires)
+returns c = subst (λ p. StandsFor c.take_clc-reply.new.self (takes_message 0 (Proposal p) no_link paths b_open)) (c.proposal.ensures ∙ ap proposal c.setup.ensures) (c.take_clc-reply.ensures.side b_open c.requires)
