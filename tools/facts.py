@@ -120,6 +120,7 @@ class Facts:
         self.answers = {"A": {}, "B": {}}  # the last answer to a key request: (post, entry)
         self.adding = {"A": None, "B": None}
         self.lendings = []
+        self.lending_of = {}  # by side and token, and by side and socket
         self.ends = {}  # by name
         self.streams = {}  # by (socket, sender), the CLC messages that were not taken
         self.entries = []
@@ -276,7 +277,7 @@ class Facts:
         self.streams.setdefault((post.socket, post.side), []).append(post)
         if post.fields["offer"]:
             group = int(post.fields["link"].split(".")[0])
-            self.lendings.append(Lending(post.side, post, group))
+            self.lend(Lending(post.side, post, group))
             if post.fields["contact"] == "first":
                 self.group[post.side] = Group(group, post)
                 if post.side == "A":
@@ -386,9 +387,14 @@ class Facts:
             self.give_back(end)
 
     def give_back(self, end):
-        for lending in self.lent(end.side):
-            if lending.socket == end.socket:
-                lending.ended = self.count
+        lending = self.lending_of.get((end.side, end.socket))
+        if lending and not lending.ended:
+            lending.ended = self.count
+
+    def lend(self, lending):
+        self.lendings.append(lending)
+        self.lending_of[lending.side, lending.token] = lending
+        self.lending_of[lending.side, lending.socket] = lending
 
     def lent(self, side):
         """The elements of a side that are lent now."""
@@ -396,16 +402,14 @@ class Facts:
 
     def lending_ended(self, end):
         """The entry at which an end's element was given back, 0 where it was not."""
-        mine = [each.ended for each in self.lendings if (each.side, each.socket) == (end.side, end.socket)]
-        return mine[-1] if mine else 0
+        lending = self.lending_of.get((end.side, end.socket))
+        return lending.ended if lending else 0
 
     def end_told_by(self, post):
         """The end whose token a CDC message names."""
-        side, token = peer(post.side), int(post.fields["token"])
-        for lending in self.lendings:
-            if lending.side == side and lending.token == token:
-                return self.ends[f"{side}.{lending.socket}"]
-        return None
+        side = peer(post.side)
+        lending = self.lending_of.get((side, int(post.fields["token"])))
+        return self.ends[f"{side}.{lending.socket}"] if lending else None
 
     def group_ended(self, side, number):
         """The entry at which a group ended at a side, 0 where it did not."""

@@ -184,15 +184,15 @@ def read_entry(line, number):
 
 def read_line(line, entries):
     """Takes a line of an entry or a post to the entries before it; whether it is one."""
-    if line.startswith("  "):
-        last = entries[-1] if entries else None
-        thing = last and read_post(line, last.number, len(last.posts) + 1)
-        target = last and last.posts
-    else:
-        thing, target = read_entry(line, len(entries) + 1), entries
-    if thing:
-        target.append(thing)
-    return bool(thing)
+    is_post = line.startswith("  ")
+    if is_post and not entries:
+        return False
+    into = entries[-1].posts if is_post else entries
+    number = len(into) + 1
+    found = read_post(line, entries[-1].number, number) if is_post else read_entry(line, number)
+    if found:
+        into.append(found)
+    return found is not None
 
 
 def is_end(rest, count):

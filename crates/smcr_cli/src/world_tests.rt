@@ -1,5 +1,6 @@
 //! The calls of a world, each once: two bytes cross, and a setup is refused by its field.
 use pipe_model::{End, Event, PostRef, Reply, Room, SentKind, Setup, Side};
+use scene_text::built_setup;
 use std::test::Fail;
 use world_core::{Field, NewFault, World};
 
@@ -74,7 +75,7 @@ const CROSSING: [(Event, Reply); 10] = [
 #[test]
 fn two_bytes_cross(rt: HostRuntime) -> Result<(), Fail> {
     let payload = vec![in rt.alloc(); 104, 105]?;
-    let Ok(mut world) = World::new(rt.alloc(), &Setup::default(), payload, Room::default()) else {
+    let Ok(mut world) = World::new(rt.alloc(), &built_setup(), payload, Room::default()) else {
         return Err(Fail::new("no world"));
     };
     assert_eq!(rt; world.next(), None);
@@ -106,7 +107,7 @@ fn two_bytes_cross(rt: HostRuntime) -> Result<(), Fail> {
 fn four_links_are_too_many(rt: HostRuntime) -> Result<(), Fail> {
     let setup = Setup {
         links: 4,
-        ..Setup::default()
+        ..built_setup()
     };
     let payload = vec![in rt.alloc(); 1]?;
     let fault = World::new(rt.alloc(), &setup, payload, Room::default()).err();

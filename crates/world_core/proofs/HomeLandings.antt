@@ -11,7 +11,7 @@ use Rattle.cdc_wire.specs.declared.CdcMessage.{CdcMessage}
 use Rattle.pipe_model.specs.declared.event.Event.{Event}
 use Rattle.pipe_model.specs.declared.event.Event.TheVariants.{Open, Write as WriteEvent, Read, Clc as ClcEvent, Deliver, Complete}
 use Rattle.pipe_model.specs.declared.reply.Reply.{Reply}
-use Rattle.pipe_model.specs.declared.reply.Reply.TheVariants.{Idle, Landed, Dropped}
+use Rattle.pipe_model.specs.declared.reply.Reply.TheVariants.{Landed, Dropped}
 use Rattle.pipe_model.specs.declared.post.Post.{Post}
 use Rattle.pipe_model.specs.declared.post.Post.TheVariants.{Write, Cdc, Llc, Clc}
 use Rattle.pipe_model.specs.declared.post.PostRef.{PostRef}

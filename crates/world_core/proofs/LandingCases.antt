@@ -17,7 +17,7 @@ use Rattle.pipe_model.specs.declared.entry.Entry.{Entry}
 use Rattle.pipe_model.specs.Ends.{Half}
 use Rattle.pipe_model.specs.Wires.{landing, is_on}
 use Rattle.rc_link.specs.declared.Carried.{Carried}
-use Rattle.rc_link.specs.Wire.{Queues, placed, next_cdc, landing as would_land, with_landed}
+use Rattle.rc_link.specs.Wire.{Queues, placed, next_cdc, with_landed}
 use Rattle.conn_end.specs.Kept.{Kept}
 use Rattle.side_core.specs.Records.{aimer, conn_at}
 use Rattle.side_core.specs.Comings.{IsGoingAt}

@@ -21,7 +21,7 @@ use Rattle.pipe_model.specs.Replies.{deliver_told}
 use Rattle.pipe_model.specs.Lawful.{posted}
 use Rattle.pipe_model.specs.Flows.{flow_step}
 use Rattle.rc_link.specs.declared.Carried.{Carried}
-use Rattle.rc_link.specs.Wire.{placed, landing as would_land, with_landed, room_of}
+use Rattle.rc_link.specs.Wire.{placed, with_landed, room_of}
 use Rattle.conn_end.specs.Kept.{Kept}
 use Rattle.side_core.specs.Records.{conn_at}
 use Rattle.side_core.specs.Acting.{IsSoundAt, MayConfirm, acts_at, confirms_link, confirming_posts, due_at}

@@ -9,7 +9,7 @@ use Rattle.pipe_model.specs.declared.setup.Room.{Room}
 use Rattle.pipe_model.specs.declared.entry.Entry.{Entry}
 use Rattle.pipe_model.specs.declared.entry.StepFault.{StepFault}
 use Rattle.pipe_model.specs.declared.event.Event.{Event}
-use Rattle.pipe_model.specs.declared.event.Event.TheVariants.{Open, Clc, Write, Read, Deliver, Complete}
+use Rattle.pipe_model.specs.declared.event.Event.TheVariants.{Open}
 use Rattle.pipe_model.specs.declared.reply.Reply.{Reply}
 use Rattle.pipe_model.specs.declared.reply.Reply.TheVariants.{Opened}
 use Rattle.pipe_model.specs.Fits.{Fits}

@@ -41,6 +41,7 @@ pub mod EstablishedManagers
 pub mod FallenManagers
 pub mod Feasible
 pub mod FewUps
+pub mod FirstBad
 pub mod FirstOn
 pub mod Follows
 pub mod FreshEnds

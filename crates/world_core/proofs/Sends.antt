@@ -3,9 +3,6 @@
 use Rattle.std.proofs.Common.{◌≡◌, ◌∙◌, ℕ, ◌+◌, ◌-◌, ◌<◌, ◌≤◌, Bool, true, false, if◌then◌else◌, List, [], ◌∷◌, length, filter, Option, Some, None, IsSome, option_map, unwrap_or, refl, sym, ap, subst, append_assoc, length-append, arith, drop, get_or, slice_set, slice_index_or, suc, zero}
 use Rattle.std.proofs.lemmas.List.{length-set, drop_more}
 use Rattle.std.proofs.lemmas.Bool.{false≢true}
-use Rattle.smc_num.specs.declared.Side.{Side}
-use Rattle.smc_num.specs.declared.LinkId.{LinkId}
-use Rattle.cdc_wire.specs.declared.CdcMessage.{CdcMessage}
 use Rattle.pipe_model.specs.declared.post.Post.{Post}
 use Rattle.pipe_model.specs.declared.post.Post.TheVariants.{Write, Cdc, Llc, Clc}
 use Rattle.pipe_model.specs.declared.post.PostRef.{PostRef}
@@ -19,7 +16,7 @@ use Rattle.side_core.specs.Manager.{Manager, StandsFor}
 use Rattle.side_core.proofs.Allowed.{aimers_same}
 use Rattle.world_core.specs.declared.host.Outflow.{Outflow}
 use Rattle.world_core.specs.Hosts.{with_posts}
-use Rattle.world_core.specs.Sending.{no_snapshot, plain_of, goes_on_wire, carried_from, posts_one, puts, puts_one, puts_all, outflow_at, wire_in, MaySend, MaySendAll}
+use Rattle.world_core.specs.Sending.{no_snapshot, plain_of, goes_on_wire, carried_from, posts_one, puts, puts_one, puts_all, outflow_at, wire_in, MaySendAll}
 
 -- the snapshot beside a CDC message whose token names an end
 pub plain_found : (core : Manager Kept) (m : Manager Half) (token : ℕ) (plain : Snapshot) → StandsFor core m → IsSome (aimer token core.records)

@@ -6,12 +6,12 @@ use Rattle.smc_num.specs.declared.LinkPhase.TheVariants.{Live as LiveLink}
 use Rattle.pipe_model.specs.Fabric.{does}
 use Rattle.pipe_model.specs.Flows.{LinkSent}
 use Rattle.pipe_model.specs.declared.flow.FlowStep.TheVariants.{Live}
-use Rattle.history_laws.specs.Words.{A, Abandoned, AddKeys, AddLink, AddSeen, AddSent, AskLink, B, ConfirmLink, Entry, FirstContact, FlowStep, KeysSent, Known, LinkFlow, LinkId, NewKey, NoFlow, Over, Peer, Reject, ReplyAdd, ReplyKeys, SendKeys, Setup, Side, Skip, at_slot, fabric, is_first_contact, is_standing, link_or_none, llc_step, lowest_live, no_link, on_add_keys, on_add_keys_reply, on_add_link, on_add_link_reject, on_add_link_reply, on_confirm_link, on_confirm_link_reply, on_new_link, path_up, peer, phase_at, step_posts, view_of, with_peer}
+use Rattle.history_laws.specs.Words.{A, Abandoned, AddKeys, AddLink, AddSeen, AddSent, AskLink, B, ConfirmLink, Entry, FirstContact, FlowStep, KeysSent, Known, LinkFlow, LinkId, NewKey, NoFlow, Over, Peer, Reject, ReplyAdd, ReplyKeys, SendKeys, Setup, Side, Skip, at_slot, fabric, is_first_contact, is_standing, link_or_none, llc_step, lowest_live, no_link, on_add_keys, on_add_keys_reply, on_add_link, on_add_link_reject, on_add_link_reply, on_confirm_link, on_confirm_link_reply, on_new_link, path_up, peer, phase_at, step_posts, view_of}
 use Rattle.history_laws.proofs.Basics.{and-both}
 use Rattle.link_laws.proofs.Sound.Slots.{found-slot, lowest-is, phase_in, some-live}
 use Rattle.link_laws.specs.Linked.{AreFlowing, AreLinked, IsOwn, LinkFits, StandsAtBoth, is_accepted, is_adding_on, is_confirming, phases, then_posted}
 use Rattle.link_laws.proofs.Sound.OneSide.{IsGoing, going-of}
-use Rattle.link_laws.proofs.Sound.Landings.{accepts-again, accepts-new, asks-link, b-has, linked_to, lives-a, lives-b, overs, rejects, replies-keys, sends-keys}
+use Rattle.link_laws.proofs.Sound.Landings.{accepts-again, accepts-new, asks-link, b-has, lives-a, lives-b, overs, rejects, replies-keys, sends-keys}
 use Rattle.link_laws.proofs.Sound.Frames.{both-in, forgotten}
 
 -- what stands on a slot has the slot

@@ -1,6 +1,5 @@
 -- The host of the end writes.
 use Rattle.std.proofs.Common.{refl, subst, sym}
-use Rattle.smc_num.specs.declared.Side.TheVariants.{A, B}
 use Rattle.pipe_model.specs.declared.event.Event.TheVariants.{Write}
 use Rattle.world_core.specs.Hosts.{AreHosts, IsPlayedBy, past_of}
 use Rattle.world_core.proofs.HostsSwapped.{at_b, turned}

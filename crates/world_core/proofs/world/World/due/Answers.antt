@@ -1,5 +1,5 @@
 -- Only a read hands out bytes, and how many shows its hosts.
-use Rattle.std.proofs.Common.{◌≡◌, ap, length, subst, sym}
+use Rattle.std.proofs.Common.{◌≡◌, length, subst, sym}
 use Rattle.smc_num.specs.declared.Side.TheVariants.{A}
 use Rattle.pipe_model.specs.Fits.{Fits}
 use Rattle.world_core.specs.Played.{handed}
