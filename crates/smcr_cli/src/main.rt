@@ -6,6 +6,7 @@
 #![tactic(auto)]
 
 mod fields;
+mod headline;
 mod print;
 mod print_posts;
 mod print_replies;
