@@ -42,4 +42,4 @@ pub use Rattle.history_laws.proofs.Basics.Truths.{not-due}
 -- the address of an RMB
 pub use Rattle.history_laws.proofs.Basics.Truths.{rmb-of}
 -- truth values, sides, options, phases and links: what a conjunction, a disjunction or a comparison tells
-pub use Rattle.history_laws.proofs.Basics.Truths.{or-none, by-bool, if-same, and-false, and-both, and-left, and-true, or-right, or-true, same-is, link-is, none-is, by-side, or-shift, of-side, or-nothing, live-is, some-live, or-left, or-parts, standing-live, other-other, a-is-b}
+pub use Rattle.history_laws.proofs.Basics.Truths.{or-none, by-bool, if-same, and-false, and-both, and-left, and-true, or-right, or-true, same-is, link-is, none-is, by-side, or-shift, of-side, or-nothing, live-is, some-live, or-left, or-parts, standing-live, other-other, not-false, a-is-b, b-not-a}

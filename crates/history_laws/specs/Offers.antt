@@ -5,8 +5,7 @@ use Rattle.pipe_model.specs.declared.reply.Reply.TheVariants.{Sent}
 use Rattle.pipe_model.specs.declared.reply.SentKind.TheVariants.{Accept as AcceptSent, Confirm as ConfirmSent}
 use Rattle.pipe_model.specs.declared.event.Event.TheVariants.{Clc as ClcEvent}
 use Rattle.clc_wire.specs.declared.message.ClcMessage.TheVariants.{Accept as AcceptMessage, Confirm as ConfirmMessage, Decline as DeclineMessage, Proposal as ProposalMessage}
-use Rattle.smc_num.specs.Names.{at_side}
-use Rattle.history_laws.specs.Words.{A, B, ClcMessage, EndState, Entry, Established, LinkId, NoEnd, Offer, Offered, Post, Proposal, Refusal, Reply, SendAccept, SendConfirm, Setup, Side, WaitsAnswer, WaitsConfirm, WaitsProposal, Whole, accept_post, clc_step, confirm_post, early_state, end_state, fewest, first_link, front, is_opened, is_out, is_raw, is_up, lends, lends_by, named_link, new_offer, no_link, offer_in, offered, other, untaken}
+use Rattle.history_laws.specs.Words.{A, B, ClcMessage, EndState, Entry, Established, LinkId, NoEnd, Offer, Offered, Post, Proposal, Refusal, Reply, SendAccept, SendConfirm, Setup, Side, WaitsAnswer, WaitsConfirm, WaitsProposal, Whole, accept_post, at_side, clc_step, confirm_post, early_state, end_state, fewest, first_link, front, is_opened, is_out, is_raw, is_up, lends, lends_by, named_link, new_offer, no_link, offer_in, offered, other, untaken}
 use Rattle.history_laws.specs.Posts.{AreData, AreFree}
 use Rattle.history_laws.specs.Lists.{IsAmong}
 

@@ -18,10 +18,10 @@ pub use Rattle.pipe_model.specs.Fallback.{Faulty, Front, NoMessage, Whole, clc_i
 pub use Rattle.pipe_model.specs.Flows.{Abandoned, AddSeen, AddSent, Drop, FirstContact, Flow, KeysSent, LinkFlow, NoFlow, after_answer, begins_delete, begins_drop, begins_test, flow_after, flow_slot, flow_step, is_adding, is_asked, is_deleting, is_dropping, is_first_contact, lost_link, named_slot, no_flow, on_add_keys, on_add_keys_reply, on_add_link, on_add_link_reject, on_add_link_reply, on_confirm_link, on_confirm_link_reply, on_confirm_rkey, on_confirm_rkey_reply, on_delete_rkey_reply, on_new_link, resends_add, resends_key}
 pub use Rattle.pipe_model.specs.Handshake.{first_contact_step, key_step, lacks, on_accept, on_first_accept, on_later_accept, on_proposal}
 pub use Rattle.pipe_model.specs.History.{Offered, is_cdc, next_number, numbered, offer_in, offered, offered_if, post_at}
-pub use Rattle.pipe_model.specs.Keys.{AreBound, Binding, Keys, book_of, keys_of, known_rmb, last_binding, named_rmbs, no_keys, token_rmb, withdraws}
+pub use Rattle.pipe_model.specs.Keys.{Binding, Keys, book_of, by_act, keys_of, known_rmb, last_binding, named_rmbs, no_keys, token_rmb, withdraws}
 pub use Rattle.pipe_model.specs.Lawful.{act_posts, draft, front_posts, reply_of}
 pub use Rattle.pipe_model.specs.Lending.{RelendsOnlyDone, Lending, gives_up, is_done_with, is_out, is_over_on, leaves_handshake, lendings, lends, lends_by, lent, pipe_of, record_of, returns, terms_of, told_last}
-pub use Rattle.pipe_model.specs.Messages.{confirm_link, delete_link, key_on, key_reply, pair_on, proposal, refusal}
+pub use Rattle.pipe_model.specs.Messages.{add_keys, confirm_link, delete_link, delete_reply, key_on, key_reply, pair_on, proposal, refusal}
 pub use Rattle.pipe_model.specs.Parts.{EachOf, IsFeasible, IsMarked, has_last, is_broken}
 pub use Rattle.pipe_model.specs.Pipe.{Calls, Completes, Fate, GroupEnd, Item, Pipe, Terms, Up, apply, half, pipe, posts_of, step}
 pub use Rattle.pipe_model.specs.Posts.{accept_post, add_again, cdc_posts, clc_posts, confirm_post, connection_posts, deleting_rmbs, drop_posts, end_posts, fewest, first_link, groups_begun, grow_post, is_offered, key_again, lighter, lightest, link_now, load, loss_posts, new_offer, next_free, offered_place, offered_sockets, peer_of, pipe_posts, proposal_post, ready_posts, report_posts, rkey_post, sent_posts, step_posts, test_post, trim_post, trimmed, writes}
@@ -52,9 +52,9 @@ pub use Rattle.pipe_model.specs.declared.setup.Setup.{Setup}
 pub use Rattle.pipe_model.specs.declared.verdict.ClcStep.{ClcStep}
 pub use Rattle.pipe_model.specs.declared.verdict.ClcStep.TheVariants.{AskKey, Decline, Fell, Lost, Ready, SendAccept, SendConfirm, Wait, Wrong}
 pub use Rattle.pipe_model.specs.declared.verdict.Lacks.{Lacks}
-pub use Rattle.smc_num.specs.Keys.{Key, is_for, is_used, key_base, registers, registers_all}
+pub use Rattle.smc_num.specs.Keys.{Key, is_for, is_used, key_base, number_for, registers, registers_all, registers_on}
 pub use Rattle.smc_num.specs.Links.{Known, all_dead, at_slot, dead, is_live, is_pending, is_standing, link_at, link_or_none, live_links, lowest_live, phase_at, put, same_phase, set_phase, stands, unpending, with_phase}
-pub use Rattle.smc_num.specs.Names.{has, has_link, head, no_link, other, same_link, same_side, up_to}
+pub use Rattle.smc_num.specs.Names.{at_side, has, has_link, head, no_link, other, same_link, same_side, up_to}
 pub use Rattle.smc_num.specs.Numbers.{wire_number}
 pub use Rattle.smc_num.specs.Places.{Place, all_places, rmb_address, rmb_at, same_place}
 pub use Rattle.smc_num.specs.declared.LinkId.{LinkId}

@@ -5,10 +5,18 @@ mod Comes
 mod Live
 -- after a history and with each of its entries
 pub use Rattle.lending_laws.proofs.Ends.All.{all-plain}
+-- what a side's offer of first contact is: the next group at B, and at either side there was no group
+pub use Rattle.lending_laws.proofs.Ends.Begins.{begins-b}
+-- no side has a group beyond those that B has begun
+pub use Rattle.lending_laws.proofs.Ends.Begins.{at-most}
 -- a side begins a group only where it has none, and none that has ended there
 pub use Rattle.lending_laws.proofs.Ends.Begins.{begins-new}
 -- and so over every history
 pub use Rattle.lending_laws.proofs.Ends.Begins.{all-begin}
+-- what offers nothing posts no offer; and how A begins a group
+pub use Rattle.lending_laws.proofs.Ends.Begins.{none-free, none-data, begins-a}
+-- the offers of both sides on a socket are of the same kind of contact
+pub use Rattle.lending_laws.proofs.Ends.Comes.{same-first}
 -- `comes` and `lasts`
 pub use Rattle.lending_laws.proofs.Ends.Comes.{lives-on}
 -- before each entry B is sound

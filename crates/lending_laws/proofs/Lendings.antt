@@ -15,10 +15,14 @@ mod Told
 pub use Rattle.lending_laws.proofs.Lendings.All.{all-owed}
 -- lendings are apart, held and done with, from what is owed after each history
 pub use Rattle.lending_laws.proofs.Lendings.All.{are-done-all}
+-- a verdict that sends is none of those that hold or decline
+pub use Rattle.lending_laws.proofs.Lendings.Groups.{if-not}
 -- A confirms in first contact where it has no group, and else where it is in the group of the offer and an element is free
 pub use Rattle.lending_laws.proofs.Lendings.Groups.{ConfirmFacts}
 -- what a verdict that offers tells of group, link and element
 pub use Rattle.lending_laws.proofs.Lendings.Groups.{accept-facts, confirm-facts}
+-- it does so of a Confirm alone, at an end that waits for it, on a socket that is not raw
+pub use Rattle.lending_laws.proofs.Lendings.Least.{TakesConfirm}
 -- what the agreement of wires and pipes wants with an entry
 pub use Rattle.lending_laws.proofs.Lendings.Least.{go-on-plain}
 -- what the agreement of wires and pipes wants of offers, without a word on parts
@@ -31,6 +35,8 @@ pub use Rattle.lending_laws.proofs.Lendings.Least.{relending}
 pub use Rattle.lending_laws.proofs.Lendings.Least.{lending-laws}
 -- reuse from the least
 pub use Rattle.lending_laws.proofs.Lendings.Least.{no-old-bytes}
+-- an end that is ready takes a Confirm that it waited for
+pub use Rattle.lending_laws.proofs.Lendings.Least.{ready-in}
 -- what passes a filter
 pub use Rattle.lending_laws.proofs.Lendings.Lendings.{in-filter}
 -- a new lending, by its offer

@@ -1,11 +1,14 @@
 pub mod Asked
+pub mod Asking
 pub mod BoundKeys
 pub mod Deleting
 pub mod Ends
+pub mod FirstKeys
 pub mod KeyGroups
 pub mod Lendings
 pub mod Owed
 pub mod OwedKeys
 pub mod Reuse
+pub mod Telling
 pub mod Tokens
 pub mod Unlent

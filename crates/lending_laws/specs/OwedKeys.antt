@@ -1,8 +1,8 @@
--- All that other subjects owe for the keys of a side: with each entry, in the words of what was tested, as weak as the proofs allow.
+-- All that other subjects owe for the keys of a side: with each entry, in the words of what was tested, as weak as the proofs allow; and what is claimed of them.
 use Rattle.std.specs.Prelude.{List, Option, Some, [], false, take, true, ℕ, ◌∷◌, ◌≡◌, ◌≤◌, ◌⊎◌}
 use Rattle.pipe_model.specs.declared.flow.FlowStep.TheVariants.{Confirmed}
 use Rattle.pipe_model.specs.Keys.{deleted}
-use Rattle.history_laws.specs.Words.{Act, AddKeys, AskLink, Entry, Key, Learn, LinkId, LlcMessage, NewKey, Offered, ReplyKeys, Setup, Side, Withdraw, act_in, book_of, fabric, flow_of, has, keys_of, known_rmb, link_at, made_on, named_rmbs, named_slot, other, peer, rmb_at, stands, table_of}
+use Rattle.history_laws.specs.Words.{Act, AddKeys, AskLink, Entry, Key, Learn, LinkId, LlcMessage, NewKey, Offered, ReplyKeys, Side, Withdraw, act_in, book_of, fabric, flow_of, has, keys_of, known_rmb, link_at, made_on, named_rmbs, named_slot, other, peer, rmb_at, stands, table_of}
 use Rattle.history_laws.specs.Lists.{IsAmong}
 use Rattle.link_laws.specs.KeyChanges.{HasUse, TakesOffer, offered_key, told_by}
 use Rattle.link_laws.specs.Linked.{AreLatest, AreLinked, Under}
@@ -12,7 +12,6 @@ use Rattle.link_laws.specs.Learnt.{AreTold, BeginsFirst, IsNear}
 use Rattle.link_laws.specs.Moves.{OwedByMoves}
 use Rattle.lending_laws.specs.Tokens.{TellsBound, use_of}
 use Rattle.lending_laws.specs.Asked.{AreAsked, OwedByRequests}
-use Rattle.lending_laws.specs.BoundKeys.{AreFreed, OwedLendings, OwedLendingsWith}
 
 -- a side learns of the keys for a new link: B of A's answer, A of B's keys
 pub record TakesKeys (x : Side) (e : Entry) (past : List Entry) : Type 0 where
@@ -43,32 +42,33 @@ pub record OwedByTold (x : Side) (e : Entry) (past : List Entry) : Type 0 where
   -- what is learnt of an offer is bound at x so, where its link stands there; and is the very key, where its RMB is confirmed already
   pub told : (o : Offered) → TakesOffer (other x) e past o → stands o.link (table_of x (e ∷ past)) ≡ true → HasUse (offered_key o) (keys_of x past).keys
   pub exact : (o : Offered) → TakesOffer (other x) e past o → IsAmong (rmb_at o.offer.address) (keys_of x past).confirmed → IsNear x o.link (e ∷ past) → IsAmong (offered_key o) (keys_of x past).keys
+  -- as x begins a group, the peer knows nothing of its links
+  pub first : BeginsFirst x e → (k : Key) → IsAmong k (book_of (other x) (e ∷ past)) → IsNear x k.link (e ∷ past) → ⊥
+
+-- what is owed of the answers to key requests
+pub record OwedByReplies (x : Side) (e : Entry) (past : List Entry) : Type 0 where
   -- as the answer to CONFIRM RKEY confirms an RMB, what the peer has learnt of it on links that x holds for dead is bound
   pub answered : Takes x e past Confirmed → (k : Key) → IsAmong k (book_of (other x) past) → k.rmb ≡ (flow_of x past).rmb → stands k.link (table_of x past) ≡ false → IsNear x k.link (e ∷ past) → IsAmong k (keys_of x past).keys
   -- as keys are withdrawn, the peer knows none of them on a link that stands at x
   pub forgotten : (t : Takes x e past Withdraw) (k : Key) → IsAmong k (book_of (other x) past) → has k.rmb (named_rmbs (deleted t.act.message) (keys_of x past).keys) ≡ true → stands k.link (table_of x past) ≡ false
-  -- as x begins a group, the peer knows nothing of its links
-  pub first : BeginsFirst x e → (k : Key) → IsAmong k (book_of (other x) (e ∷ past)) → IsNear x k.link (e ∷ past) → ⊥
+
+-- with each entry of a history, at both sides
+abbrev pub AllReplies : List Entry → Type 0
+AllReplies [] = Unit {0}
+AllReplies (e ∷ past) = ((x : Side) → OwedByReplies x e past) × AllReplies past
 
 -- what is owed with an entry
-pub record OwedKeys (setup : Setup) (payload : List ℕ) (x : Side) (e : Entry) (past : List Entry) : Type 0 where
+pub record OwedKeys (x : Side) (e : Entry) (past : List Entry) : Type 0 where
   pub under : Option Under
   pub linked : AreLinked (fabric (e ∷ past)) under
   pub moves : OwedByMoves e past
   pub flows : OwedByFlows e past
   pub requests : OwedByRequests x e past
   pub told : OwedByTold x e past
-  pub lendings : OwedLendings setup payload x past
-  pub lendings_with : OwedLendingsWith setup payload x e past
-
--- with each entry of a history
-abbrev pub AllOwedKeys : Setup → List ℕ → Side → List Entry → Type 0
-AllOwedKeys setup payload x [] = Unit {0}
-AllOwedKeys setup payload x (e ∷ past) = OwedKeys setup payload x e past × AllOwedKeys setup payload x past
+  pub replies : OwedByReplies x e past
 
 -- all that is claimed of the keys of a side, beside what holds over every list
 pub record HasKeys (x : Side) (past : List Entry) : Type 0 where
   pub told : AreTold x past
   pub covered : AreCovered x past
   pub asked : AreAsked x past
-  pub freed : AreFreed x past

@@ -9,7 +9,9 @@ mod bound_keys;
 mod lent_elements;
 mod offered_ends;
 
-pub use bound_keys::{keys_are_bound, keys_are_known, keys_are_of_the_group};
+pub use bound_keys::{
+    free_numbers_are_done_with, keys_are_bound, keys_are_known, keys_are_of_the_group,
+};
 pub use lent_elements::{
     a_token_names_its_lending, lendings_are_done_with, no_bytes_come_after_a_lending,
     no_element_is_lent_again_too_early,

@@ -47,6 +47,8 @@ pub use Rattle.link_laws.proofs.Contact.OtherLandings.{acted}
 pub use Rattle.link_laws.proofs.Contact.OtherLandings.{IsHarmless}
 -- a message that is not of the link flow establishes no end and does no harm to first contact
 pub use Rattle.link_laws.proofs.Contact.OtherLandings.{acts-is, not-up, harmless}
+-- a Confirm of first contact that B takes is in its row
+pub use Rattle.link_laws.proofs.Contact.Owing.{joined-row}
 -- all that the handshake owes after a history, from what first contact is there
 pub use Rattle.link_laws.proofs.Contact.Owing.{owed}
 -- an end that waits is not up, and its early state is that
@@ -57,3 +59,5 @@ pub use Rattle.link_laws.proofs.Contact.Step.{kind-given}
 pub use Rattle.link_laws.proofs.Contact.Step.{contacted}
 -- before anything has happened
 pub use Rattle.link_laws.proofs.Contact.Step.{contacted-first}
+-- of two managers the front is the next message, and never faulty
+pub use Rattle.link_laws.proofs.Contact.TakenAtB.{front-head}

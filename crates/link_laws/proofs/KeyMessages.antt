@@ -4,6 +4,8 @@ mod Posted
 mod StepSays
 -- what waits after an entry waited before it, or is posted with it
 pub use Rattle.link_laws.proofs.KeyMessages.OnWires.{waited-or-posted}
+-- it is what is under way
+pub use Rattle.link_laws.proofs.KeyMessages.OnWires.{waiting-under}
 -- a link on which a message waits, and which is not dead after an entry, was not dead before it
 pub use Rattle.link_laws.proofs.KeyMessages.OnWires.{waited-alive}
 -- what lands waited
@@ -16,5 +18,7 @@ pub use Rattle.link_laws.proofs.KeyMessages.OnWires.{among-append}
 pub use Rattle.link_laws.proofs.KeyMessages.Posted.{keys-posted}
 -- what becomes of a side's key flow
 pub use Rattle.link_laws.proofs.KeyMessages.Posted.{key-turn}
+-- B adds a link as before, or has just begun
+pub use Rattle.link_laws.proofs.KeyMessages.Posted.{adds-from}
 -- what a step says, of the message that a side takes with an entry
 pub use Rattle.link_laws.proofs.KeyMessages.StepSays.{takes-says}

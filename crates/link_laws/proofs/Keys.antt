@@ -31,6 +31,10 @@ pub use Rattle.link_laws.proofs.Keys.BookLists.{withdrawn-from}
 pub use Rattle.link_laws.proofs.Keys.Entries.{fold-goes}
 -- what one of the items brings about, and the others keep
 pub use Rattle.link_laws.proofs.Keys.Entries.{fold-reaches}
+-- a CONFIRM RKEY of the side registers
+pub use Rattle.link_laws.proofs.Keys.Entries.{post-asks}
+-- what one post does to keys: nothing, or an offer of first contact, or a CONFIRM RKEY of the side itself
+pub use Rattle.link_laws.proofs.Keys.Entries.{post-goes}
 -- the keys after what has landed
 pub use Rattle.link_laws.proofs.Keys.Entries.{taken}
 -- what has landed: the four steps that change keys
@@ -41,6 +45,8 @@ pub use Rattle.link_laws.proofs.Keys.Entries.{posts-go-by}
 pub use Rattle.link_laws.proofs.Keys.Entries.{posts-reach}
 -- all together
 pub use Rattle.link_laws.proofs.Keys.Entries.{keys-after}
+-- what is among the second of two lists is among both
+pub use Rattle.link_laws.proofs.Keys.Lists.{right-among}
 -- the other answer of a test
 pub use Rattle.link_laws.proofs.Keys.Lists.{not-of}
 -- a test that would give true gives false
@@ -59,6 +65,8 @@ pub use Rattle.link_laws.proofs.Keys.Lists.{found-none}
 pub use Rattle.link_laws.proofs.Keys.Lists.{kept-in}
 -- what is kept was there and passes
 pub use Rattle.link_laws.proofs.Keys.Lists.{kept-from}
+-- what is among the first of two lists is among both
+pub use Rattle.link_laws.proofs.Keys.Lists.{among-left}
 -- a number is that of one key, and so is the use
 pub use Rattle.link_laws.proofs.Keys.Lists.{one-number}
 -- a key of an RMB and slot passes the test for them
@@ -85,5 +93,9 @@ pub use Rattle.link_laws.proofs.Keys.Lists.{keeps-key}
 pub use Rattle.link_laws.proofs.Keys.Range.{keys-in}
 -- a list that is mapped keeps what is in it
 pub use Rattle.link_laws.proofs.Keys.Range.{among-map}
+-- the loss of a slot
+pub use Rattle.link_laws.proofs.Keys.Wanted.{loses-so}
+-- a report
+pub use Rattle.link_laws.proofs.Keys.Wanted.{reports-so}
 -- all events together
 pub use Rattle.link_laws.proofs.Keys.WantedFrom.{wanted-from}

@@ -57,6 +57,8 @@ pub use Rattle.link_laws.proofs.UnderWay.Handshakes.{key_rmb}
 pub use Rattle.link_laws.proofs.UnderWay.Leaves.{left_after}
 -- a link that is not dead stands at both sides
 pub use Rattle.link_laws.proofs.UnderWay.NothingLeft.{both-stand}
+-- what is under way fits
+pub use Rattle.link_laws.proofs.UnderWay.NothingLeft.{under-fits}
 -- a link of a slot on which none stands at a side is dead
 pub use Rattle.link_laws.proofs.UnderWay.NothingLeft.{gone-there}
 -- so is the link of a slot that may be reported

@@ -1,9 +1,9 @@
 -- No key is bound to another RMB too early: after every history made by the definitions, with CLC messages taken on known sockets.
 use Rattle.std.proofs.Common.{Bool, List, [], ap, eq-eqb, eqb-true, false, inl, inr, not, refl, subst, sym, true, true≢false, ℕ, ◌&&◌, ◌==◌, ◌∙◌, ◌∷◌, ◌≡◌, ◌⊎◌}
 use Rattle.std.specs.Prelude.{All, IsTrue, None, Option, Some, filter_map}
-use Rattle.pipe_model.specs.Keys.{IsRebound, deleted, owing}
+use Rattle.pipe_model.specs.Keys.{AreBound, IsRebound, deleted, owing}
 use Rattle.std.proofs.lemmas.List.Elements.{All-nil}
-use Rattle.history_laws.specs.Words.{AreBound, Binding, Entry, Key, Lending, Setup, Side, Withdraw, group_of, has, is_done_with, is_used, keys_of, last_binding, lendings, lends, lent, named_rmbs, offered, returns}
+use Rattle.history_laws.specs.Words.{Binding, Entry, Key, Lending, Setup, Side, Withdraw, group_of, has, is_done_with, is_used, keys_of, last_binding, lendings, lends, lent, named_rmbs, offered, returns}
 use Rattle.history_laws.specs.Made.{IsMadeAll}
 use Rattle.history_laws.specs.Lists.{IsAmong}
 use Rattle.history_laws.proofs.Offers.{all-offers, begins, states}

@@ -66,6 +66,10 @@ standing-live Pending e = absurd (true≢false e)
 standing-live LiveLink e = absurd (true≢false e)
 standing-live Dead e = refl
 
+pub not-false : (b : Bool) → not b ≡ false → b ≡ true
+not-false true e = refl
+not-false false e = absurd (true≢false e)
+
 pub or-none : (a b : Bool) → (a || b) ≡ false → (a ≡ false) × (b ≡ false)
 or-none true b e = absurd (true≢false e)
 or-none false b e = (refl, e)
@@ -82,6 +86,9 @@ some-live j (k ∷ ks) e n = by (k.link.slot == j) (is_live k.phase) refl e n (s
 
 pub a-is-b : A ≡ B → ⊥
 a-is-b e = cc
+
+pub b-not-a : B ≡ A → ⊥
+b-not-a e = cc
 
 -- what comes up
 abbrev pub of_side : Side → Option LinkId → Option LinkId → Option LinkId

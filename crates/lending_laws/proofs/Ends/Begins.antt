@@ -19,7 +19,7 @@ use Rattle.link_laws.proofs.Sound.{has-group}
 use Rattle.lending_laws.proofs.Lendings.{accept-facts, confirm-facts}
 use Rattle.lending_laws.specs.Ends.{AllBegin, BeginsNew}
 
-none-free : (x : Side) (s : ℕ) (link : LinkId) (o : Offer) (ps : List Post) → AreFree ps → IsAmong (offer_post x s link o) ps → ⊥
+pub none-free : (x : Side) (s : ℕ) (link : LinkId) (o : Offer) (ps : List Post) → AreFree ps → IsAmong (offer_post x s link o) ps → ⊥
 none-free x s link o [] f i = i
 none-free x s link o (p ∷ ps) f i = elim i [ inl h ↦ by x (subst (λ q. IsFree q) (sym h) f.0) | inr h ↦ none-free x s link o ps f.1 h ]
   where
@@ -27,7 +27,7 @@ none-free x s link o (p ∷ ps) f i = elim i [ inl h ↦ by x (subst (λ q. IsFr
     by A f = f
     by B f = f
 
-none-data : (x : Side) (s : ℕ) (link : LinkId) (o : Offer) (ps : List Post) → AreData ps → IsAmong (offer_post x s link o) ps → ⊥
+pub none-data : (x : Side) (s : ℕ) (link : LinkId) (o : Offer) (ps : List Post) → AreData ps → IsAmong (offer_post x s link o) ps → ⊥
 none-data x s link o [] f i = i
 none-data x s link o (p ∷ ps) f i = elim i [ inl h ↦ true≢false (sym f.0 ∙ (ap is_data (sym h) ∙ by x)) | inr h ↦ none-data x s link o ps f.1 h ]
   where

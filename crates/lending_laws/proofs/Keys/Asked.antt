@@ -1,11 +1,10 @@
 -- While the answer to CONFIRM RKEY is awaited, its RMB has a key for each link of the list; so the answer confirms an RMB with a key for each known link.
 use Rattle.std.proofs.Common.{Bool, List, Some, [], ap, false, if◌then◌else◌, inl, inr, refl, subst, sym, true, true≢false, ℕ, ◌&&◌, ◌==◌, ◌||◌, ◌∙◌, ◌∷◌, ◌≡◌}
 use Rattle.pipe_model.specs.declared.flow.KeyPhase.TheVariants.{Asked, Free, Retry as RetryWaits}
-use Rattle.smc_num.specs.Keys.{registers_on}
 use Rattle.std.specs.List.{list_all}
 use Rattle.std.specs.Prelude.{option_map}
 use Rattle.pipe_model.specs.declared.flow.FlowStep.TheVariants.{Confirmed}
-use Rattle.history_laws.specs.Words.{Act, Deleting, Entry, Flow, Key, KeyPhase, KeyToken, Keys, Known, LinkId, Peer, Side, Withdraw, at_slot, fabric, flow_of, group_of, has_link, is_asked, is_deleting, is_for, key_base, keys_of, link_at, peer, registers, registers_all, same_link, stands, table_of, token_rmb, unpending}
+use Rattle.history_laws.specs.Words.{Act, Deleting, Entry, Flow, Key, KeyPhase, KeyToken, Keys, Known, LinkId, Peer, Side, Withdraw, at_slot, fabric, flow_of, group_of, has_link, is_asked, is_deleting, is_for, key_base, keys_of, link_at, peer, registers, registers_all, registers_on, same_link, stands, table_of, token_rmb, unpending}
 use Rattle.history_laws.specs.Lists.{IsAmong}
 use Rattle.history_laws.specs.Tables.{Rises}
 use Rattle.history_laws.proofs.Basics.{link-is, none-is, some-is}

@@ -5,8 +5,10 @@ use Rattle.pipe_model.specs.declared.event.Event.TheVariants.{Clc as ClcEvent}
 use Rattle.pipe_model.specs.declared.reply.Reply.TheVariants.{Sent}
 use Rattle.pipe_model.specs.declared.reply.SentKind.TheVariants.{ConfirmRkey as KeySent}
 use Rattle.pipe_model.specs.declared.flow.KeyPhase.TheVariants.{Asked}
-use Rattle.history_laws.specs.Words.{A, B, Entry, Fabric, Peer, Setup, Side, confirms_on, fabric, flow_of, keys_of, link_or_none, lowest_live, next_free, other, peer, peer_of, rkey_post, rmb_address, rmb_at, with_peer}
+use Rattle.history_laws.specs.Words.{A, B, Entry, Fabric, Peer, Setup, Side, confirms_on, fabric, flow_of, keys_of, link_or_none, lowest_live, next_free, other, peer, peer_of, rkey_post, rmb_address, rmb_at, table_of, unpending, with_peer}
+use Rattle.history_laws.proofs.Basics.{rmb-of}
 use Rattle.link_laws.specs.Posted.{VerdictAsks}
+use Rattle.link_laws.specs.KeyChanges.{told_of}
 
 module _ (setup : Setup) (payload : List ℕ) (x : Side) (e : Entry) (past : List Entry) (va : VerdictAsks setup payload x e past) where
   abbrev rmb : ℕ
@@ -33,3 +35,12 @@ module _ (setup : Setup) (payload : List ℕ) (x : Side) (e : Entry) (past : Lis
 
   pub asked-key : (flow_of x (e ∷ past)).key ≡ Asked
   asked-key = ap (λ (p : Peer). p.flow.key) asked-peer
+
+  pub asked-rmb : (flow_of x (e ∷ past)).rmb ≡ (next_free setup payload x past).rmb
+  asked-rmb = ap (λ (p : Peer). p.flow.rmb) asked-peer ∙ rmb-of (next_free setup payload x past).rmb
+
+  pub asked-table : table_of x (e ∷ past) ≡ table_of x past
+  asked-table = ap (λ (p : Peer). p.table) asked-peer
+
+  pub asked-told : told_of x (e ∷ past) ≡ unpending (table_of x past)
+  asked-told = ap (λ (p : Peer). p.told) asked-peer

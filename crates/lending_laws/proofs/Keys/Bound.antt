@@ -1,15 +1,15 @@
 -- No key is bound to another RMB too early: what was bound under its number is done with.
-use Rattle.std.proofs.Common.{Bool, List, None, Some, [], ap, eq-eqb, eqb-true, false, filter, if◌then◌else◌, inl, inr, not, refl, subst, sym, true, true≢false, ℕ, ◌&&◌, ◌++◌, ◌==◌, ◌∙◌, ◌∷◌, ◌≡◌, ◌⊎◌}
+use Rattle.std.proofs.Common.{Bool, List, None, Some, [], ap, eq-eqb, eqb-true, false, filter, if◌then◌else◌, inl, inr, not, refl, subst, sym, true, true≢false, ℕ, ◌&&◌, ◌==◌, ◌∙◌, ◌∷◌, ◌≡◌, ◌⊎◌}
 use Rattle.std.specs.Prelude.{All, IsTrue, Option, filter_map, find, option_map}
 use Rattle.std.proofs.lemmas.List.Elements.{All-cons, All-nil}
-use Rattle.pipe_model.specs.Keys.{IsRebound, deleted, if_group, owing}
+use Rattle.pipe_model.specs.Keys.{AreBound, IsRebound, deleted, if_group, owing}
 use Rattle.std.specs.Option.{option_or}
 use Rattle.pipe_model.specs.Lending.{is_gone}
-use Rattle.history_laws.specs.Words.{A, AreBound, B, Binding, Entry, Key, Keys, Lending, LinkId, Setup, Side, Withdraw, group_of, has, has_ended, is_done_with, is_used, key_base, keys_of, last_binding, lendings, lends, loses_group_with, named_rmbs, no_keys}
+use Rattle.history_laws.specs.Words.{A, B, Binding, Entry, Key, Keys, Lending, LinkId, Setup, Side, Withdraw, group_of, has, has_ended, is_done_with, is_used, key_base, keys_of, last_binding, lendings, lends, loses_group_with, named_rmbs, no_keys}
 use Rattle.history_laws.specs.Lists.{IsAmong}
 use Rattle.history_laws.proofs.Basics.{and-both, and-true, none-is, not-true, or-left, or-true, some-is}
 use Rattle.link_laws.specs.KeyChanges.{AreKeys, Goes, GroupGoes, HasUse, Registers, Withdrawn}
-use Rattle.link_laws.proofs.Keys.{any-found, any-of, filter-are, found-is, found-none, keeps-key, keeps-use, kept-from, kept-in, keys-after, keys-are, none-are, not-alike, not-of, one-number, registers-are}
+use Rattle.link_laws.proofs.Keys.{any-found, any-of, filter-are, found-is, found-none, keeps-key, keeps-use, kept-from, kept-in, keys-after, keys-are, none-are, not-alike, not-of, one-number, registers-are, right-among}
 use Rattle.link_laws.specs.FabricChanges.{Takes}
 use Rattle.lending_laws.specs.BoundKeys.{AreFreed, OwedByLendings, OwedLendings, OwedLendingsWith}
 
@@ -17,11 +17,6 @@ use Rattle.lending_laws.specs.BoundKeys.{AreFreed, OwedByLendings, OwedLendings,
 pub all-where : {X : Type 0} (P : X → Type 0) (xs : List X) → ((a : X) → IsAmong a xs → P a) → All P xs
 all-where P [] each = All-nil P
 all-where P (a ∷ xs) each = All-cons P a xs (each a (inl refl)) (all-where P xs (λ b i. each b (inr i)))
-
--- what is among the second of two lists is among both
-pub right-among : {X : Type 0} (a : X) (xs ys : List X) → IsAmong a ys → IsAmong a (xs ++ ys)
-right-among a [] ys i = i
-right-among a (x ∷ xs) ys i = inr (right-among a xs ys i)
 
 -- a bound number stays bound to its RMB for its slot, but for a withdrawal and the group's end; over every list of entries
 pub stays-bound : (x : Side) (e : Entry) (past : List Entry) (k : Key) → HasUse k (keys_of x past).keys → HasUse k (keys_of x (e ∷ past)).keys ⊎ Goes x e past k.rmb

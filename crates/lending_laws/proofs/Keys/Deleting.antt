@@ -6,15 +6,14 @@ use Rattle.pipe_model.specs.Handshake.{verdict}
 use Rattle.pipe_model.specs.declared.flow.KeyPhase.TheVariants.{Free}
 use Rattle.pipe_model.specs.Fabric.{does, loses}
 use Rattle.pipe_model.specs.Keys.{deleted}
-use Rattle.pipe_model.specs.Messages.{delete_reply, delete_rkey}
 use Rattle.pipe_model.specs.Posts.{delete_request, last_delete}
 use Rattle.pipe_model.specs.declared.post.Post.TheVariants.{Clc, Write}
 use Rattle.std.specs.List.{cons_option, list_any}
+use Rattle.pipe_model.specs.Messages.{delete_rkey}
 use Rattle.pipe_model.specs.Lending.{is_idle}
-use Rattle.smc_num.specs.Names.{at_side}
 use Rattle.pipe_model.specs.declared.event.Event.TheVariants.{Clc as ClcEvent}
 use Rattle.std.specs.Option.{option_or}
-use Rattle.history_laws.specs.Words.{A, AddKeys, AddLink, B, Cdc, ClcMessage, ConfirmLink, ConfirmRkey, DeleteLink, DeleteRkey, EndState, Entry, Flow, Forget, Key, Lacks, Learn, Lending, LinkId, Llc, LlcMessage, Offer, Peer, Post, ReplyRetry, SendAccept, SendConfirm, Setup, Side, TestLink, Trim, WaitsAnswer, WaitsProposal, Withdraw, book_of, clc_step, deleting_rmbs, end_state, ends_group, fabric, flow_of, goes_on, group_of, has, head, is_dead, is_deleting, is_for, is_raw, key_on, key_reply, keys_of, lacks, lends, lent, lowest_live, named_rmbs, other, peer, peer_of, returns, same_side, trim_post, trimmed, up_to, without_slot}
+use Rattle.history_laws.specs.Words.{A, AddKeys, AddLink, B, Cdc, ClcMessage, ConfirmLink, ConfirmRkey, DeleteLink, DeleteRkey, EndState, Entry, Flow, Forget, Key, Lacks, Learn, Lending, LinkId, Llc, LlcMessage, Offer, Peer, Post, ReplyRetry, SendAccept, SendConfirm, Setup, Side, TestLink, Trim, WaitsAnswer, WaitsProposal, Withdraw, at_side, book_of, clc_step, delete_reply, deleting_rmbs, end_state, ends_group, fabric, flow_of, goes_on, group_of, has, head, is_dead, is_deleting, is_for, is_raw, key_on, key_reply, keys_of, lacks, lends, lent, lowest_live, named_rmbs, other, peer, peer_of, returns, same_side, trim_post, trimmed, up_to, without_slot}
 use Rattle.history_laws.specs.Lists.{IsAmong}
 use Rattle.history_laws.proofs.Offers.{accepts-in, all-offers, begins, confirms-in, in-append, sends-accept, sends-confirm, states}
 use Rattle.history_laws.proofs.Basics.{and-both, none-is, other-other, same-is, same-self, some-is}
@@ -124,7 +123,7 @@ abbrev is_delete : LlcMessage → Bool
 is_delete (DeleteRkey reply negative count mask keys) = true
 is_delete m = false
 
-message-of : (y z : Side) (l k : LinkId) (m n : LlcMessage) → Llc y l m ≡ Llc z k n → m ≡ n
+pub message-of : (y z : Side) (l k : LinkId) (m n : LlcMessage) → Llc y l m ≡ Llc z k n → m ≡ n
 message-of y z l k m n e = cc
 
 key-reply-not : (b : Bool) (m : LlcMessage) → is_ask_request m ≡ true → is_delete (key_reply b m) ≡ false
@@ -339,9 +338,9 @@ module _ (setup : Setup) (payload : List ℕ) (past : List Entry) (before : ℕ)
 
         by : KeysPosted setup payload e past y (Llc y l m) → AreIdle setup payload x (deleted m) (e ∷ past)
         by (ByVerdict va h) = absurd (not-delete _ (message-of y y l _ m _ h) refl)
-        by (ByLoss k loss some (AsksAgain a h)) = absurd (not-delete _ (message-of y y l _ m _ h) refl)
-        by (ByLoss k loss some (TellsAgain j on f r h)) = absurd (not-delete _ (message-of y y l _ m _ h) refl)
-        by (ByLoss k loss some (DeletesAgain a h)) =
+        by (ByLoss k loss some still (AsksAgain a r h qs rs is silent)) = absurd (not-delete _ (message-of y y l _ m _ h) refl)
+        by (ByLoss k loss some still (TellsAgain j on f r h)) = absurd (not-delete _ (message-of y y l _ m _ h) refl)
+        by (ByLoss k loss some still (DeletesAgain a r h)) =
             let q : m ≡ delete_rkey (lowest_live (loses k (peer_of y past)).table) (deleting_rmbs setup y past) (keys_of y past).keys = message-of y y l _ m _ h in
             again y (requests _ _ _ q) (lowest_live (loses k (peer_of y past)).table) q (ap is_deleting a)
           where
@@ -435,7 +434,7 @@ module _ (setup : Setup) (payload : List ℕ) (past : List Entry) (before : ℕ)
         by (KeyRetries a) = absurd (true≢false (sym d2 ∙ ap is_deleting a))
         by (KeyAsks va) = absurd (true≢false (sym d2 ∙ ap is_deleting (asked-key setup payload x e past va)))
         by (KeyDeletes ev r more posts a) = inr (more, posts)
-        by (KeyLoses k loss) = inl (loss-deleting k (peer_of x past) (ap is_deleting (sym loss.key) ∙ d2))
+        by (KeyLoses k loss again) = inl (loss-deleting k (peer_of x past) (ap is_deleting (sym loss.key) ∙ d2))
 
     -- the last DELETE RKEY
     last-after : D (e ∷ past) → (m : LlcMessage) × ((last_delete x (e ∷ past) ≡ Some m) × AreIdle setup payload x (deleted m) (e ∷ past))

@@ -43,7 +43,7 @@ pairs-posted on j l m rmbs ks s r have u i =
     its rmb slot link h s = subst (λ n. HasUse (use_of (key_on rmb slot ks) n slot) ks) (rmb-of rmb) (on-use rmb slot ks h.key h.among h.of (ap (λ (k : LinkId). k.slot) h.on ∙ s))
 
 -- the entry of what is known that a reference names
-known-is : (n : ℕ) (on : LinkId) (book : List Key) (rmb : ℕ) → known_rmb n on book ≡ Some rmb → (k : Key) × (IsAmong k book × ((k.key ≡ n) × ((k.link ≡ on) × (k.rmb ≡ rmb))))
+pub known-is : (n : ℕ) (on : LinkId) (book : List Key) (rmb : ℕ) → known_rmb n on book ≡ Some rmb → (k : Key) × (IsAmong k book × ((k.key ≡ n) × ((k.link ≡ on) × (k.rmb ≡ rmb))))
 known-is n on book rmb e = by (filter (is_named n on) book) (λ k i. kept-from (is_named n on) k book i) e
   where
     by : (ks : List Key) → ((k : Key) → IsAmong k ks → IsAmong k book × (is_named n on k ≡ true)) → head (map (λ (k : Key). k.rmb) ks) ≡ Some rmb → (k : Key) × (IsAmong k book × ((k.key ≡ n) × ((k.link ≡ on) × (k.rmb ≡ rmb))))

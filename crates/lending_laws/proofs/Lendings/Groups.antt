@@ -20,7 +20,7 @@ use Rattle.link_laws.specs.Linked.{AreOf, Begins, Confirms as ConfirmsContact, G
 use Rattle.lending_laws.proofs.Lendings.Lendings.{changes, in-new}
 
 -- a verdict that sends is none of those that hold or decline
-if-not : (b : Bool) (w r v : ClcStep) → (w ≡ v → ⊥) → (if b then w else r) ≡ v → (b ≡ false) × (r ≡ v)
+pub if-not : (b : Bool) (w r v : ClcStep) → (w ≡ v → ⊥) → (if b then w else r) ≡ v → (b ≡ false) × (r ≡ v)
 if-not true w r v n e = absurd (n e)
 if-not false w r v n e = (refl, e)
 

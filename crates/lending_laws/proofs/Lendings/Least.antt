@@ -26,13 +26,13 @@ use Rattle.lending_laws.proofs.Lendings.All.{are-apart-all, are-done-all, relend
 use Rattle.lending_laws.specs.Reuse.{AreCarriedOn, CarriesNoBytes}
 
 -- it does so of a Confirm alone, at an end that waits for it, on a socket that is not raw
-record TakesConfirm (raw : Bool) (state : EndState) (m : ClcMessage) : Type 0 where
-  waits : state ≡ WaitsConfirm
-  offer : Offer
-  message_is : m ≡ ConfirmMessage offer
-  plain : raw ≡ false
+pub record TakesConfirm (raw : Bool) (state : EndState) (m : ClcMessage) : Type 0 where
+  pub waits : state ≡ WaitsConfirm
+  pub offer : Offer
+  pub message_is : m ≡ ConfirmMessage offer
+  pub plain : raw ≡ false
 
-ready-in : (raw : Bool) (state : EndState) (m : ClcMessage) (l : Lacks) → verdict raw state m l ≡ Ready → TakesConfirm raw state m
+pub ready-in : (raw : Bool) (state : EndState) (m : ClcMessage) (l : Lacks) → verdict raw state m l ≡ Ready → TakesConfirm raw state m
 ready-in raw WaitsProposal (ProposalMessage p) l e = absurd (proposal-step (λ w. w ≡ Ready → ⊥) (λ q. cc) (λ h q. cc) (λ a q. cc) (λ b q. cc) raw p l e)
 ready-in raw WaitsProposal (AcceptMessage o) l e = cc
 ready-in raw WaitsProposal (ConfirmMessage o) l e = cc

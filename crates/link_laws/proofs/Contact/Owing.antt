@@ -36,7 +36,7 @@ module _ (setup : Setup) (payload : List ℕ) (past : List Entry) (under : Optio
   named-is s o e = ap (λ (q : Option Offered). unwrap_or (option_map (λ (o : Offered). o.link) q) no_link) e
 
   -- a Confirm of first contact that B takes is in its row
-  joined-row : (s : ℕ) (m : Offer) → head (untaken A s past) ≡ Some (ConfirmMessage m) → m.first ≡ true → m.psn ≡ group_of B past → (o : Offered) × ((p : Offered) × IsJoinedFirst s o p past under)
+  pub joined-row : (s : ℕ) (m : Offer) → head (untaken A s past) ≡ Some (ConfirmMessage m) → m.first ≡ true → m.psn ≡ group_of B past → (o : Offered) × ((p : Offered) × IsJoinedFirst s o p past under)
   joined-row s m h first psn = by all.contact
     where
       not-later : (t : ℕ) → AreLater t past → (s == t) ≡ true → ⊥

@@ -12,7 +12,7 @@ use Rattle.std.specs.Option.{option_or}
 use Rattle.pipe_model.specs.Handshake.{kind_of}
 use Rattle.history_laws.specs.Words.{A, AskKey, B, BadStep, ClcMessage, ClcStep, Decline, Declined, EndState, Entry, Established, Faulty, Fell, FellBack, Flow, Front, HasFallen, Held, Hold, Lack, Lacks, LinkId, NoEnd, NoMessage, Offer, Offered, Post, Refusal, Reply, Reset, SendConfirm, Setup, Side, Wait, WaitsAnswer, WaitsConfirm, WaitsLink, WaitsProposal, WasReset, Whole, Wrong, after_clc, clc_posts, clc_told, end_state, expects, fabric, front, front_posts, front_told, group_of, group_on, groups_begun, head, is_first_contact, is_raw, keys_of, lacks, named_link, new_offer, next_free, no_link, offer_in, offered, offered_if, peer_of, refusal, rkey_post, step_told, stream, takes_message, untaken, up_by}
 use Rattle.history_laws.proofs.Posts.{AreWired, begins-nothing, data-wired, offers-nothing, says-nothing}
-use Rattle.history_laws.proofs.Basics.{a-is-b, by-side, none-is, some-is}
+use Rattle.history_laws.proofs.Basics.{a-is-b, b-not-a, by-side, none-is, some-is}
 use Rattle.history_laws.specs.Posts.{AreData}
 use Rattle.history_laws.specs.Offers.{is_own_state}
 use Rattle.history_laws.proofs.Offers.{loss-own}
@@ -28,9 +28,6 @@ use Rattle.link_laws.proofs.Contact.Counted.{named-begun}
 use Rattle.link_laws.proofs.Contact.Reflows.{moves-flow}
 use Rattle.link_laws.proofs.Contact.Verdicts.{is_awaited, judged}
 use Rattle.link_laws.proofs.Contact.TakenAtB.{expecting, front-faulty, front-head}
-
-b-is-a : B ≡ A → ⊥
-b-is-a e = cc
 
 -- an offer on its own socket
 pub offers-here-a : (s : ℕ) (l : LinkId) (o : Offer) (rest : List Post) → AreWired rest → filter_map (offer_in A s) (ClcPost A s (Some l) (ConfirmMessage o) ∷ rest) ≡ record { link = l; offer = o } ∷ []
@@ -75,7 +72,7 @@ module _ (setup : Setup) (payload : List ℕ) (past : List Entry) (under : Optio
     moves = moves-same past under (entry reply rest) same (data-under rest data_rest);
     count = no-group-begun past (entry reply rest) wired;
     socket = socket reply rest (moved past under actor s B reply rest offers m state h w some is takes own leaves [] (says-nothing A s rest wired) tt (says-nothing B s rest wired) (λ o g. inl (sym (offer-by past (entry reply rest) A s wired) ∙ g)) (offers-nothing B s rest wired)
-        (λ q r. absurd (b-is-a q)) no_offer no_join)
+        (λ q r. absurd (b-not-a q)) no_offer no_join)
         (λ t q. beside past under actor s B reply rest t q (λ x. says-nothing x t rest wired) (λ x. offers-nothing x t rest wired));
   })
 
@@ -104,7 +101,7 @@ module _ (setup : Setup) (payload : List ℕ) (past : List Entry) (under : Optio
     moves = moves-same past under (entry reply (ClcPost A s link c ∷ rest)) same none;
     count = count;
     socket = socket reply (ClcPost A s link c ∷ rest) (moved past under actor s B reply (ClcPost A s link c ∷ rest) offers m WaitsAnswer h refl answer-some is takes own leaves (c ∷ []) (says-here A s link c rest wired) later (says-across A s s link c rest wired) new (offers-across A s s link c rest wired)
-        (λ q r. absurd (b-is-a q))
+        (λ q r. absurd (b-not-a q))
         (λ o row. not-offered past s o B m not_first offers h row) (λ o q row. not-joined past under s o q B m not_first offers h row))
         (λ t q. beside past under actor s B reply (ClcPost A s link c ∷ rest) t q (λ x. says-beside x A t s q link c rest wired) (λ x. offers-beside x A t s q link c rest wired));
   })
@@ -197,7 +194,7 @@ module _ (setup : Setup) (payload : List ℕ) (past : List Entry) (under : Optio
   wrong raw state m no_rule r is ex h pe = let w = expecting state ex in to (Reset (BadStep (kind_of m))) _ _ pe (taken (Reset (BadStep (kind_of m))) m state h w.0 w.1 is refl refl (reset (BadStep (kind_of m))) (λ q row. not_offered q row) (λ q p row. not_joined q p row) refl)
     where
       not_joined : (q p : Offered) → IsJoinedFirst s q p past under → ⊥
-      not_joined q p row = let it = joined-message past under s q p B m offers row h in b-is-a it.0
+      not_joined q p row = let it = joined-message past under s q p B m offers row h in b-not-a it.0
 
       not_offered : (q : Offered) → IsOfferedFirst s q past → ⊥
       not_offered q row =

@@ -1,8 +1,8 @@
 -- What a side has learnt, over every list of entries: one key an RMB and slot; and each key after an entry was known before or is learnt with it.
 use Rattle.std.proofs.Common.{Bool, List, [], ap, eq-eqb, eqb-true, false, filter, if◌then◌else◌, inl, inr, nat_lt, not, refl, subst, sym, true, true≢false, ℕ, ◌==◌, ◌∙◌, ◌∷◌, ◌≡◌, ◌⊎◌}
 use Rattle.smc_num.specs.Keys.{binds}
-use Rattle.pipe_model.specs.Keys.{by_act, by_step, confirms, deleted, if_group}
-use Rattle.history_laws.specs.Words.{Entry, Key, Keys, Side, Withdraw, act_in, book_of, flow_of, group_of, has, is_for, keys_of, named_rmbs, no_keys, table_of, withdraws}
+use Rattle.pipe_model.specs.Keys.{by_step, confirms, deleted, if_group}
+use Rattle.history_laws.specs.Words.{Entry, Key, Keys, Side, Withdraw, act_in, book_of, by_act, flow_of, group_of, has, is_for, keys_of, named_rmbs, no_keys, table_of, withdraws}
 use Rattle.history_laws.proofs.Basics.{not-true}
 use Rattle.history_laws.specs.Lists.{IsAmong}
 use Rattle.link_laws.specs.KeyChanges.{Confirms, Learns, NoTwo, same_use}

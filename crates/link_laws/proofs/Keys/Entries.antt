@@ -1,12 +1,11 @@
 -- What one entry does to the keys of a side: a fact that goes on with each single change holds after the entry.
 use Rattle.std.proofs.Common.{Bool, List, None, Some, [], ap, eqb-true, false, if◌then◌else◌, inl, inr, refl, subst, sym, true, true≢false, ℕ, ◌==◌, ◌∙◌, ◌∷◌, ◌≡◌}
 use Rattle.std.specs.Prelude.{Option, fold}
-use Rattle.smc_num.specs.Keys.{registers_on}
-use Rattle.pipe_model.specs.Keys.{by_act, by_post, by_step, confirms, deleted}
+use Rattle.pipe_model.specs.Keys.{by_post, by_step, confirms, deleted}
 use Rattle.pipe_model.specs.declared.post.Post.TheVariants.{Clc, Write}
 use Rattle.clc_wire.specs.declared.message.ClcMessage.TheVariants.{Accept as AcceptMessage, Confirm as ConfirmMessage, Decline as DeclineMessage, Proposal as ProposalMessage}
 use Rattle.pipe_model.specs.declared.flow.FlowStep.TheVariants.{Answered, Confirmed, Live}
-use Rattle.history_laws.specs.Words.{A, Act, AddKeys, AddLink, AskLink, B, Cdc, ConfirmLink, ConfirmRkey, DeleteLink, DeleteRkey, Echo, Entry, Flow, FlowStep, Forget, Gone, KeyToken, Keys, Known, Learn, LinkId, Llc, LlcMessage, Offer, Over, Post, Reject, ReplyAdd, ReplyKeys, ReplyRetry, Retry, SendKeys, Side, Skip, TestLink, Withdraw, act_in, flow_of, group_of, key_base, keys_of, named_rmbs, no_keys, registers, registers_all, rmb_at, table_of, token_rmb, unpending, withdraws}
+use Rattle.history_laws.specs.Words.{A, Act, AddKeys, AddLink, AskLink, B, Cdc, ConfirmLink, ConfirmRkey, DeleteLink, DeleteRkey, Echo, Entry, Flow, FlowStep, Forget, Gone, KeyToken, Keys, Known, Learn, LinkId, Llc, LlcMessage, Offer, Over, Post, Reject, ReplyAdd, ReplyKeys, ReplyRetry, Retry, SendKeys, Side, Skip, TestLink, Withdraw, act_in, by_act, flow_of, group_of, key_base, keys_of, named_rmbs, no_keys, registers, registers_all, registers_on, rmb_at, table_of, token_rmb, unpending, withdraws}
 use Rattle.history_laws.specs.Lists.{IsAmong}
 use Rattle.history_laws.proofs.Basics.{none-is, some-is}
 use Rattle.link_laws.specs.FabricChanges.{OffersFirst, Takes, offer_post}

@@ -2,12 +2,17 @@
 use Rattle.std.proofs.Common.{Bool, List, None, Some, [], ap, cond, eq-eqb, eqb-true, false, filter, if◌then◌else◌, inl, inr, not, refl, subst, sym, true, true≢false, ℕ, ◌++◌, ◌<◌, ◌==◌, ◌||◌, ◌∙◌, ◌∷◌, ◌≡◌, ◌⊎◌}
 use Rattle.std.specs.List.{list_any}
 use Rattle.std.specs.Prelude.{Option, find, option_map, unwrap_or}
-use Rattle.smc_num.specs.Keys.{lowest_unused, number_for}
+use Rattle.smc_num.specs.Keys.{lowest_unused}
 use Rattle.smc_num.proofs.KeyLemmas.{lowest_unused_is}
-use Rattle.history_laws.specs.Words.{Key, LinkId, is_for, registers}
+use Rattle.history_laws.specs.Words.{Key, LinkId, is_for, number_for, registers}
 use Rattle.history_laws.specs.Lists.{IsAmong}
 use Rattle.history_laws.proofs.Basics.{and-both, and-true, none-is, not-true, some-is}
 use Rattle.link_laws.specs.KeyChanges.{AreKeys, NoTwo, same_number, same_use}
+
+-- what is among the second of two lists is among both
+pub right-among : {X : Type 0} (a : X) (xs ys : List X) → IsAmong a ys → IsAmong a (xs ++ ys)
+right-among a [] ys i = i
+right-among a (x ∷ xs) ys i = inr (right-among a xs ys i)
 
 -- a test of which one answer is known
 clash : {X : Type 0} (b : Bool) → b ≡ true → b ≡ false → X

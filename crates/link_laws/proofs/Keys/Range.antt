@@ -7,10 +7,10 @@ use Rattle.std.specs.Prelude.{eqb}
 use Rattle.std.proofs.lemmas.Map.Keys.{IsDistinct-cons}
 use Rattle.std.proofs.lemmas.Map.Steps.{le-length_from_below, length-le_from_distinct_below}
 use Rattle.std.proofs.lemmas.List.{length-map}
-use Rattle.smc_num.specs.Keys.{lowest_unused, number_for}
+use Rattle.smc_num.specs.Keys.{lowest_unused}
 use Rattle.smc_num.proofs.KeyLemmas.{lowest_unused_is}
 use Rattle.pipe_model.specs.Keys.{deleted}
-use Rattle.history_laws.specs.Words.{Entry, Key, LinkId, Side, has, is_for, is_used, key_base, keys_of, named_rmbs, registers}
+use Rattle.history_laws.specs.Words.{Entry, Key, LinkId, Side, has, is_for, is_used, key_base, keys_of, named_rmbs, number_for, registers}
 use Rattle.history_laws.specs.Lists.{IsAmong}
 use Rattle.link_laws.specs.KeyRange.{AllOwedByRange, AreIn, IsInRange}
 use Rattle.link_laws.specs.KeyChanges.{AreKeys, NoTwo, same_use}

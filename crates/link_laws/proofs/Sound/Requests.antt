@@ -5,10 +5,10 @@ use Rattle.pipe_model.specs.declared.flow.KeyPhase.TheVariants.{Asked, Free, Ret
 use Rattle.smc_num.specs.declared.LinkPhase.TheVariants.{Live as LiveLink}
 use Rattle.pipe_model.specs.Flows.{LinkSent, begins_confirm}
 use Rattle.std.specs.Option.{option_or}
-use Rattle.pipe_model.specs.Messages.{add_keys, add_link}
+use Rattle.pipe_model.specs.Messages.{add_link}
 use Rattle.pipe_model.specs.Fabric.{loses}
 use Rattle.std.proofs.lemmas.Bool.{ne_eqb}
-use Rattle.history_laws.specs.Words.{A, Abandoned, AddSeen, AddSent, B, Dead, Deleting, Drop, Entry, Fabric, FirstContact, Flow, Key, KeyPhase, Keys, KeysSent, LinkFlow, LinkId, LinkPhase, Llc, NoFlow, Peer, Post, Side, add_again, begins_delete, begins_drop, begins_test, confirms_on, delete_link, deleting_rmbs, drop_posts, ends_group, fabric, flow_slot, goes_on, is_asked, is_dropping, is_standing, key_again, keys_of, link_or_none, loss_posts, lost_link, lowest_live, no_flow, pair_on, peer, phase_at, report_posts, reports, resends_add, resends_key, set_phase, with_flow, with_peer, without_slot, Setup}
+use Rattle.history_laws.specs.Words.{A, Abandoned, AddSeen, AddSent, B, Dead, Deleting, Drop, Entry, Fabric, FirstContact, Flow, Key, KeyPhase, Keys, KeysSent, LinkFlow, LinkId, LinkPhase, Llc, NoFlow, Peer, Post, Side, add_again, add_keys, begins_delete, begins_drop, begins_test, confirms_on, delete_link, deleting_rmbs, drop_posts, ends_group, fabric, flow_slot, goes_on, is_asked, is_dropping, is_standing, key_again, keys_of, link_or_none, loss_posts, lost_link, lowest_live, no_flow, pair_on, peer, phase_at, report_posts, reports, resends_add, resends_key, set_phase, with_flow, with_peer, without_slot, Setup}
 use Rattle.history_laws.proofs.Basics.{and-both}
 use Rattle.link_laws.specs.Linked.{AreFlowing, AreLinked, AreLive, Begins, CarryDrops, Confirms, FitsUnder, Goes, HasNone, IsOwn, IsSound, LinkFits, Under, is_own_flow, phases, then_posted, under_in, under_of}
 use Rattle.link_laws.proofs.Sound.Frames.{answered, reflowed-a, reflowed-b}

@@ -1,9 +1,9 @@
 -- What lands comes from the other side on a link that stands at both, and is what is under way, where it is of the link flow.
-use Rattle.std.proofs.Common.{Bool, List, [], ap, false, if◌then◌else◌, not, refl, subst, sym, true, true≢false, ℕ, ◌||◌, ◌∙◌, ◌∷◌, ◌≡◌}
+use Rattle.std.proofs.Common.{Bool, List, [], ap, false, if◌then◌else◌, refl, subst, sym, true, ℕ, ◌||◌, ◌∙◌, ◌∷◌, ◌≡◌}
 use Rattle.std.specs.Prelude.{None, Option, Some, option_and_then}
 use Rattle.pipe_model.specs.Wires.{is_reported, landing}
 use Rattle.history_laws.specs.Words.{A, B, Entry, LinkId, Llc, LlcMessage, Placed, Side, fabric, head, is_cut, is_dead, is_on, landing_on, latest, post_at, same_link, same_side, stands, table_of, unlanded}
-use Rattle.history_laws.proofs.Basics.{and-both, link-is, none-is, or-none, same-is, some-is}
+use Rattle.history_laws.proofs.Basics.{and-both, link-is, none-is, not-false, or-none, same-is, some-is}
 use Rattle.link_laws.specs.Linked.{StandsAtBoth, Under, is_link_message}
 use Rattle.link_laws.specs.UnderWay.{AreCarriedOf, kind_messages, kind_of, link_kind}
 use Rattle.link_laws.proofs.UnderWay.OwnWires.{AreOn, own-posts}
@@ -15,10 +15,6 @@ pub record LandsStanding (dir : Side) (past : List Entry) (under : Option Under)
   pub at : post_at c.at past ≡ Some c.post
   pub both : (from : Side) (link : LinkId) (m : LlcMessage) → c.post ≡ Llc from link m → StandsAtBoth link (fabric past)
   pub under_is : (from : Side) (link : LinkId) (m : LlcMessage) → c.post ≡ Llc from link m → is_link_message m ≡ true → under ≡ Some (record { from = dir; link = link; message = m })
-
-not-false : (b : Bool) → not b ≡ false → b ≡ true
-not-false true e = refl
-not-false false e = absurd (true≢false e)
 
 -- what lands is at its place; an LLC message comes on a link that stands at both sides, and is what is under way, where it is of the link flow
 pub landing-stands : (slot : ℕ) (dir : Side) (past : List Entry) (under : Option Under) (c : Placed) → AreCarriedOf link_kind past under → landing slot dir past ≡ Some c → LandsStanding dir past under c

@@ -1,11 +1,11 @@
--- The whole of a side's keys over every history, from what other subjects owe; and the law of bound keys with it.
+-- The whole of a side's keys goes on with an entry, from what other subjects owe.
 use Rattle.std.proofs.Common.{Bool, List, None, Some, [], ap, arith, false, inl, inr, refl, subst, sym, take, true, true≢false, ℕ, ◌∙◌, ◌∷◌, ◌≡◌, ◌≤◌, ◌⊎◌}
 use Rattle.std.specs.Prelude.{Option, filter_map, option_map, unwrap_or}
 use Rattle.pipe_model.specs.Keys.{new_key, token_key}
 use Rattle.std.specs.List.{cons_option}
 use Rattle.pipe_model.specs.declared.flow.FlowStep.TheVariants.{Confirmed}
 use Rattle.pipe_model.specs.Fabric.{does}
-use Rattle.history_laws.specs.Words.{A, Act, AddKeys, AddLink, AreBound, AskLink, B, ConfirmLink, ConfirmRkey, DeleteLink, DeleteRkey, Entry, FlowStep, Key, KeyToken, Known, LinkId, LlcMessage, NewKey, ReplyKeys, Setup, Side, TestLink, act_in, at_slot, book_of, fabric, flow_of, group_of, keys_of, known_rmb, link_at, link_or_none, made_on, named_slot, no_link, other, peer, rmb_at, stands, table_of}
+use Rattle.history_laws.specs.Words.{A, Act, AddKeys, AddLink, AskLink, B, ConfirmLink, ConfirmRkey, DeleteLink, DeleteRkey, Entry, FlowStep, Key, KeyToken, Known, LinkId, LlcMessage, NewKey, ReplyKeys, Side, TestLink, act_in, at_slot, book_of, fabric, flow_of, group_of, keys_of, known_rmb, link_at, link_or_none, made_on, named_slot, no_link, other, peer, rmb_at, stands, table_of}
 use Rattle.history_laws.specs.Lists.{IsAmong}
 use Rattle.history_laws.proofs.Basics.{none-is, some-is}
 use Rattle.link_laws.specs.Linked.{AreLinked, Under}
@@ -17,13 +17,9 @@ use Rattle.link_laws.specs.Covered.{AreCovered, HasKey, wants_keys}
 use Rattle.link_laws.proofs.Keys.{keys-are, one-use}
 use Rattle.link_laws.specs.KeyChanges.{HasUse, Learns, OfAnswer, OfKeys, OfOffer, OfRequest, told_by, told_keys}
 use Rattle.link_laws.proofs.Sound.{found-slot}
-use Rattle.lending_laws.specs.OwedKeys.{AllOwedKeys, HasKeys, OwedKeys, TakesKeys, TellsPairs}
-use Rattle.lending_laws.proofs.Keys.Learnt.{near-at, told-after}
-use Rattle.lending_laws.proofs.Keys.Asked.{answers-owed, asked-after}
+use Rattle.lending_laws.specs.OwedKeys.{HasKeys, OwedKeys, TakesKeys, TellsPairs}
+use Rattle.lending_laws.proofs.Keys.{answers-owed, asked-after, covered-after, near-at, told-after, told-by-request}
 use Rattle.lending_laws.specs.Tokens.{use_of}
-use Rattle.lending_laws.proofs.Keys.Tokens.{told-by-request}
-use Rattle.lending_laws.proofs.Keys.Covered.{covered-after}
-use Rattle.lending_laws.proofs.Keys.Bound.{bound-with, freed-after}
 
 -- the link of a key that a token tells is one that its reader knows
 token-link : (table : List Known) (ts : List KeyToken) (k : Key) → IsAmong k (filter_map (token_key table) ts) → (j : ℕ) × (link_at j table ≡ Some k.link)
@@ -55,22 +51,22 @@ links-owed e past under linked owed none = record { under = under; linked = link
     by z (inr (inl zero)) = NoGroup zero
     by z (inr (inr new)) = NewGroup new (none z new)
 
-links-of : (setup : Setup) (payload : List ℕ) (x : Side) (e : Entry) (past : List Entry) → OwedKeys setup payload x e past → OwedByLinks e past
-links-of setup payload x e past owed = links-owed e past owed.under owed.linked owed.moves (λ z new. owed.flows.first_none z new.link new.offer new.offers)
+links-of : (x : Side) (e : Entry) (past : List Entry) → OwedKeys x e past → OwedByLinks e past
+links-of x e past owed = links-owed e past owed.under owed.linked owed.moves (λ z new. owed.flows.first_none z new.link new.offer new.offers)
 
 -- the answer to CONFIRM RKEY: what the peer has learnt of a link that stands at x is the key that the request told
-answered : (setup : Setup) (payload : List ℕ) (x : Side) (e : Entry) (past : List Entry) → OwedKeys setup payload x e past → HasKeys x past → Takes x e past Confirmed → (k : Key) → IsAmong k (book_of (other x) past) → k.rmb ≡ (flow_of x past).rmb → IsNear x k.link (e ∷ past)
+answered : (x : Side) (e : Entry) (past : List Entry) → OwedKeys x e past → HasKeys x past → Takes x e past Confirmed → (k : Key) → IsAmong k (book_of (other x) past) → k.rmb ≡ (flow_of x past).rmb → IsNear x k.link (e ∷ past)
     → IsAmong k (keys_of x past).keys
-answered setup payload x e past owed was t k i of near = by (stands k.link (table_of x past)) refl
+answered x e past owed was t k i of near = by (stands k.link (table_of x past)) refl
   where
     at : link_at k.link.slot (table_of x past) ≡ Some k.link
-    at = ap (λ ks. link_at k.link.slot ks) (sym (table-confirmed x e past t)) ∙ (near-at x e past (links-of setup payload x e past owed) k.link near).1
+    at = ap (λ ks. link_at k.link.slot ks) (sym (table-confirmed x e past t)) ∙ (near-at x e past (links-of x e past owed) k.link near).1
 
     its : HasKey (flow_of x past).rmb k.link (keys_of x past).keys
     its = answers-owed x e past was.asked t k.link.slot k.link at
 
     by : (b : Bool) → stands k.link (table_of x past) ≡ b → IsAmong k (keys_of x past).keys
-    by false s = owed.told.answered t k i of s near
+    by false s = owed.replies.answered t k i of s near
     by true s =
         let h = was.told.known k i s in
         let same : its.key ≡ h.key = one-use (keys_of x past).keys (keys-are x past).uses its.key h.key its.among h.among (its.of ∙ (sym of ∙ sym h.of)) (ap (λ (l : LinkId). l.slot) its.on ∙ sym h.slot) in
@@ -78,8 +74,8 @@ answered setup payload x e past owed was t k i of near = by (stands k.link (tabl
         ∙ (ap (λ r. record { key = k.key; rmb = r; link = its.key.link }) (its.of ∙ sym of) ∙ ap (λ l. record { key = k.key; rmb = k.rmb; link = l }) its.on)) its.among
 
 -- what is learnt is of a latest link
-latest-of : (setup : Setup) (payload : List ℕ) (x : Side) (e : Entry) (past : List Entry) → OwedKeys setup payload x e past → (k : Key) → Learns (other x) e past k → k.link.incarnation ≤ made_on k.link.slot (fabric (e ∷ past))
-latest-of setup payload x e past owed = by
+latest-of : (x : Side) (e : Entry) (past : List Entry) → OwedKeys x e past → (k : Key) → Learns (other x) e past k → k.link.incarnation ≤ made_on k.link.slot (fabric (e ∷ past))
+latest-of x e past owed = by
   where
     later : (l : LinkId) → link_at l.slot (fabric past).latest ≡ Some l → l.incarnation ≤ made_on l.slot (fabric (e ∷ past))
     later l at =
@@ -150,7 +146,7 @@ pair-told on table j count us reply book ks tells k i low = from (take count us)
             }
         by (Some rmb) q (inr g) rest = rest g
 
-module _ (setup : Setup) (payload : List ℕ) (x : Side) (e : Entry) (past : List Entry) (owed : OwedKeys setup payload x e past) where
+module _ (x : Side) (e : Entry) (past : List Entry) (owed : OwedKeys x e past) where
   -- such a message is of keys for a new link
   no-request : (t : TakesKeys (other x) e past) → is_rkey t.act.message ≡ false
   no-request t = by t.does
@@ -194,8 +190,8 @@ module _ (setup : Setup) (payload : List ℕ) (x : Side) (e : Entry) (past : Lis
   told-of : (k : Key) → Learns (other x) e past k → IsNear x k.link (e ∷ past) → stands k.link (table_of x (e ∷ past)) ≡ true → HasUse k (keys_of x past).keys
   told-of _ (OfOffer o it) n s = owed.told.told o it s
   told-of _ (OfRequest k t i) n s = told-by-request x (other x) e past t (owed.told.request t) k i
-  told-of _ (OfAnswer k t i) n s = keys-told (record { act = t.act; is = t.is; does = inl t.does }) k i (near-at x e past (links-of setup payload x e past owed) k.link n).0
-  told-of _ (OfKeys k t i) n s = keys-told (record { act = t.act; is = t.is; does = inr t.does }) k i (near-at x e past (links-of setup payload x e past owed) k.link n).0
+  told-of _ (OfAnswer k t i) n s = keys-told (record { act = t.act; is = t.is; does = inl t.does }) k i (near-at x e past (links-of x e past owed) k.link n).0
+  told-of _ (OfKeys k t i) n s = keys-told (record { act = t.act; is = t.is; does = inr t.does }) k i (near-at x e past (links-of x e past owed) k.link n).0
 
   -- and is the very key, its RMB having a key for that link
   keys-exact : AreCovered x past → (t : TakesKeys (other x) e past) (k : Key) → IsAmong k (told_by (other x) t.act (named_slot t.act.message t.act.link.slot) past) → IsAmong k.rmb (keys_of x past).confirmed → k.link.slot ≡ named_slot t.act.message t.act.link.slot
@@ -206,7 +202,7 @@ module _ (setup : Setup) (payload : List ℕ) (x : Side) (e : Entry) (past : Lis
           → IsAmong k (keys_of x past).keys
       by (inr very) = very k i c n
       by (inl wants) =
-          let near = near-at x e past (links-of setup payload x e past owed) k.link n in
+          let near = near-at x e past (links-of x e past owed) k.link n in
           let h = keys-told t k i near.0 in
           let its : HasKey k.rmb k.link (keys_of x past).keys = covered k.rmb c k.link.slot k.link (ap (λ ks. link_at k.link.slot ks) (sym (table-same t)) ∙ near.1) (ap (λ j. wants_keys x j (peer x (fabric past))) same ∙ wants) in
           let one : its.key ≡ h.key = one-use (keys_of x past).keys (keys-are x past).uses its.key h.key its.among h.among (its.of ∙ sym h.of) (ap (λ (l : LinkId). l.slot) its.on ∙ sym h.slot) in
@@ -234,7 +230,7 @@ module _ (setup : Setup) (payload : List ℕ) (x : Side) (e : Entry) (past : Lis
       by (DeleteRkey reply negative count mask keys) is h = absurd h
 
   exact-keys : AreCovered x past → (t : TakesKeys (other x) e past) (k : Key) → IsAmong k (told_by (other x) t.act (named_slot t.act.message t.act.link.slot) past) → IsAmong k.rmb (keys_of x past).confirmed → IsNear x k.link (e ∷ past) → IsAmong k (keys_of x past).keys
-  exact-keys covered t k i c n = keys-exact covered t k i c (slot-named t k i (near-at x e past (links-of setup payload x e past owed) k.link n).0) n
+  exact-keys covered t k i c n = keys-exact covered t k i c (slot-named t k i (near-at x e past (links-of x e past owed) k.link n).0) n
 
   exact-of : AreCovered x past → (k : Key) → Learns (other x) e past k → IsAmong k.rmb (keys_of x past).confirmed → IsNear x k.link (e ∷ past) → IsAmong k (keys_of x past).keys
   exact-of covered _ (OfOffer o it) c n = owed.told.exact o it c n
@@ -243,37 +239,29 @@ module _ (setup : Setup) (payload : List ℕ) (x : Side) (e : Entry) (past : Lis
   exact-of covered _ (OfKeys k t i) c n = exact-keys covered (record { act = t.act; is = t.is; does = inr t.does }) k i c n
 
 -- the step
-pub keys-step : (setup : Setup) (payload : List ℕ) (x : Side) (e : Entry) (past : List Entry) → OwedKeys setup payload x e past → HasKeys x past → HasKeys x (e ∷ past)
-keys-step setup payload x e past owed was = record {
-  told = told-after x e past (links-of setup payload x e past owed) (record {
-    latest = latest-of setup payload x e past owed;
-    told = λ k new s. told-of setup payload x e past owed k new (inl s) s;
-    exact = exact-of setup payload x e past owed was.covered;
-    answered = answered setup payload x e past owed was;
-    forgotten = owed.told.forgotten;
+pub keys-step : (x : Side) (e : Entry) (past : List Entry) → OwedKeys x e past → HasKeys x past → HasKeys x (e ∷ past)
+keys-step x e past owed was = record {
+  told = told-after x e past (links-of x e past owed) (record {
+    latest = latest-of x e past owed;
+    told = λ k new s. told-of x e past owed k new (inl s) s;
+    exact = exact-of x e past owed was.covered;
+    answered = answered x e past owed was;
+    forgotten = owed.replies.forgotten;
     first = owed.told.first;
   }) was.told;
-  covered = covered-after x e past (links-of setup payload x e past owed) owed.flows (answers-owed x e past was.asked) was.covered;
-  asked = asked-after x e past (links-of setup payload x e past owed) owed.requests was.asked;
-  freed = freed-after setup payload x e past owed.lendings owed.lendings_with was.freed;
+  covered = covered-after x e past (links-of x e past owed) owed.flows (answers-owed x e past was.asked) was.covered;
+  asked = asked-after x e past (links-of x e past owed) owed.requests was.asked;
 }
 
--- over every history
-pub has-keys : (setup : Setup) (payload : List ℕ) (x : Side) (past : List Entry) → AllOwedKeys setup payload x past → HasKeys x past
-has-keys setup payload A [] owed = record {
+-- before all entries
+pub keys-none : (x : Side) → HasKeys x []
+keys-none A = record {
   told = record { made = λ k i. absurd i; known = λ k i. absurd i; exact = λ k i. absurd i };
   covered = λ r i. absurd i;
   asked = λ a. absurd (true≢false (sym a));
-  freed = λ n b e. absurd (none-is b e);
 }
-has-keys setup payload B [] owed = record {
+keys-none B = record {
   told = record { made = λ k i. absurd i; known = λ k i. absurd i; exact = λ k i. absurd i };
   covered = λ r i. absurd i;
   asked = λ a. absurd (true≢false (sym a));
-  freed = λ n b e. absurd (none-is b e);
 }
-has-keys setup payload x (e ∷ past) owed = keys-step setup payload x e past owed.0 (has-keys setup payload x past owed.1)
-
--- no key is bound to another RMB too early, with any entry
-pub keys-bound : (setup : Setup) (payload : List ℕ) (x : Side) (e : Entry) (past : List Entry) → AllOwedKeys setup payload x (e ∷ past) → AreBound x e past
-keys-bound setup payload x e past owed = bound-with setup payload x e past owed.0.lendings owed.0.lendings_with (has-keys setup payload x past owed.1).freed

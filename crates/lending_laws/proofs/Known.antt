@@ -1,0 +1,13 @@
+-- Of every history that the definitions make: what a side asks about, tells and offers of its keys is bound there; so what its peer has learnt is, but for what the answers to key requests owe.
+mod AskFacts
+mod Calm
+mod FirstKeys
+mod FirstOffers
+mod FlowsMade
+mod Made
+mod Owed
+mod Requesting
+mod Telling
+mod ToldMade
+-- all that is claimed of the keys of a side, of every history that the definitions make and whose key requests are answered as they should be
+pub use Rattle.lending_laws.proofs.Known.Made.{all-known}
