@@ -278,7 +278,7 @@ impl Desk {
     }
 
     /// The place of the lowest free element: an RMB, which is the side's one, and an index.
-    #[tactic(auto, using(crate::proofs::OneRmb::first_in_one))]
+    #[tactic(auto, using(crate::proofs::Elements::first_in_one))]
     pub fn next_place(&self) -> (u8, u8)
         requires { IsSome (first_free self.now.rows) }
         ensures place { record { rmb = result.0; index = result.1 } ≡ next_place self.now }

@@ -395,7 +395,7 @@ impl SideCore {
 }
 
 /// So many sockets, none with an end.
-#[tactic(auto, using(crate::proofs::Hands::no_hands_are))]
+#[tactic(auto, using(crate::proofs::Sockets::no_hands_are))]
 fn no_hands(alloc: Global, sockets: u32) -> Result<Vec<Option<Handshake>>, NoMemory>
     ensures { IfOk result (λ hands. map hand_of hands.items ≡ replicate sockets no_hand) }
 {

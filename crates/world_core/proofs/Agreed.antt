@@ -21,7 +21,7 @@ use Rattle.pipe_model.specs.Connections.{group_on, deeds, if_own, items, part}
 use Rattle.pipe_model.specs.Lending.{terms_of}
 use Rattle.pipe_model.specs.Posts.{is_offered, connection_posts}
 use Rattle.pipe_model.specs.Lawful.{draft}
-use Rattle.pipe_model.proofs.Facts.{is-marked}
+use Rattle.pipe_model.proofs.Pipes.{is-marked}
 use Rattle.world_core.specs.Played.{IsMade, IsPlayed}
 use Rattle.world_core.specs.OneLink.{the_link}
 use Rattle.world_core.specs.Wired.{cdc_under, cdcs, message, IsCarried, HasGone, EachItem, passes_by, keeps_open, IsOnLink}

@@ -18,7 +18,7 @@ use Rattle.pipe_model.specs.Ends.{Half, fresh}
 use Rattle.pipe_model.specs.Connections.{IsUp, is_up, end_state, early_state}
 use Rattle.pipe_model.specs.Lending.{Lending, lends_by, lent}
 use Rattle.side_core.specs.Records.{Connection, Records, conn_at, half_at, is_aimed_at, aimer}
-use Rattle.side_core.proofs.Tokens.{one_may_pass}
+use Rattle.side_core.proofs.Sockets.{one_may_pass}
 use Rattle.world_core.specs.Agreement.{HasOffers}
 use Rattle.world_core.specs.Managers.{manager_of, records_of, conn_of, end_of, heard_on, route_of, lending_on, awaits_confirm, keeps_element, HasLendings}
 use Rattle.world_core.specs.Sending.{plain_of, no_snapshot}

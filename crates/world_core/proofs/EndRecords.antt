@@ -18,8 +18,8 @@ use Rattle.conn_end.specs.Kept.{Kept}
 use Rattle.side_core.specs.declared.route.Route.{Route}
 use Rattle.side_core.specs.Records.{Connection, Stands, StandsAt, conn_at, has_token, is_aimed_at, holder, aimer}
 use Rattle.side_core.specs.Manager.{Manager, StandsFor, state_at, no_hand}
-use Rattle.side_core.proofs.Allowed.{aimers_same}
-use Rattle.side_core.proofs.Counting.{alike_position}
+use Rattle.side_core.proofs.Managers.{aimers_same}
+use Rattle.side_core.proofs.Elements.{alike_position}
 use Rattle.world_core.specs.Played.{IsOneLink, IsPlayed}
 use Rattle.world_core.specs.OneLink.{the_link}
 use Rattle.world_core.specs.Agreement.{HasOffers}

@@ -9,7 +9,7 @@ use Rattle.pipe_model.specs.Ends.{Half, is_due_for_move}
 use Rattle.pipe_model.specs.Calls.{Writes, Reads, Finishes, Closes, Aborts, Awaits, Moves}
 use Rattle.pipe_model.specs.Pipe.{Pipe, Terms, Item, Fate, GroupEnd, Up, Calls, Lands, Completes, half, pipe}
 use Rattle.pipe_model.specs.Parts.{has_swallow, swallows, is_swallowed, is_broken, broken_after, actor}
-use Rattle.pipe_model.proofs.Facts.{is-marked}
+use Rattle.pipe_model.proofs.Pipes.{is-marked}
 use Rattle.world_core.specs.Wired.{EachItem, returning}
 use Rattle.world_core.specs.Agreement.{CanBe}
 use Rattle.world_core.proofs.Plain.{or-right}

@@ -15,9 +15,7 @@ use Rattle.pipe_model.specs.Ends.{Half, settle, is_due, meets_fate, takes, compl
 use Rattle.pipe_model.specs.Calls.{Call, Writes, Reads, calls, is_ended}
 use Rattle.pipe_model.specs.Pipe.{Pipe, Terms, Item, Fate, GroupEnd, Up, Calls, Lands, Completes, half, pipe, apply}
 use Rattle.pipe_model.specs.Parts.{IsFeasible, CanFollow, actor, is_broken, has_swallow, IsMarked}
-use Rattle.pipe_model.proofs.Chains.{next-of}
-use Rattle.pipe_model.proofs.Facts.{is-marked}
-use Rattle.pipe_model.proofs.Parts.{both-after}
+use Rattle.pipe_model.proofs.Pipes.{next-of, is-marked, both-after}
 use Rattle.world_core.specs.Wired.{EachItem, keeps_open, IsOpenEnd, IsOpenSent}
 use Rattle.world_core.specs.Landed.{GoOn}
 use Rattle.world_core.proofs.Growth.{either, settled-half}

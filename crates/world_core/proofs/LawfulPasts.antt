@@ -14,7 +14,7 @@ use Rattle.pipe_model.specs.Connections.{is_up}
 use Rattle.pipe_model.specs.declared.reply.Lack.{Lack}
 use Rattle.pipe_model.specs.declared.reply.Reply.TheVariants.{Declined}
 use Rattle.pipe_model.specs.Causes.{IsLacking, DeclinesForLack}
-use Rattle.pipe_model.proofs.Declines.{told-named}
+use Rattle.pipe_model.proofs.Lawful.{told-named}
 use Rattle.world_core.proofs.Handshaken.{shaken}
 use Rattle.world_core.proofs.Pipes.{has-pipe}
 use Rattle.world_core.proofs.HomeLandings.{lands-home}

@@ -21,7 +21,7 @@ use Rattle.pipe_model.specs.Pipe.{half}
 use Rattle.pipe_model.specs.Parts.{EachOf, snapshots, IsMarked, IsFlying}
 use Rattle.pipe_model.specs.Connections.{is_up, part}
 use Rattle.pipe_model.specs.Lending.{terms_of, pipe_of}
-use Rattle.pipe_model.proofs.Facts.{is-marked, is-flying}
+use Rattle.pipe_model.proofs.Pipes.{is-marked, is-flying}
 use Rattle.world_core.specs.Played.{IsOneLink, IsPlayed}
 use Rattle.world_core.specs.OneLink.{the_link, llc_waiting}
 use Rattle.world_core.specs.Room.{sum_below, HasRoom}

@@ -59,8 +59,8 @@ use Rattle.pipe_model.specs.declared.verdict.ClcStep.{ClcStep}
 use Rattle.pipe_model.specs.declared.verdict.ClcStep.TheVariants.{SendAccept, SendConfirm, AskKey, Wait, Decline, Fell, Ready, Lost, Wrong}
 use Rattle.pipe_model.specs.Calls.{Plain}
 use Rattle.pipe_model.specs.Replies.{told as told_of_event}
-use Rattle.side_core.proofs.Allowed.{tells}
-use Rattle.side_core.proofs.Verdicts.{Tells}
+use Rattle.side_core.proofs.Managers.{tells, take_kept}
+use Rattle.side_core.proofs.Elements.{Tells}
 use Rattle.world_core.specs.Steps.{does_something, entry_of}
 use Rattle.pipe_model.specs.declared.verdict.Lacks.{Lacks}
 use Rattle.world_core.specs.Played.{IsOneLink, IsPlayed, handed}
@@ -68,7 +68,6 @@ use Rattle.world_core.proofs.TakenMessagesAll.{taken, taken-by-entry, idle}
 use Rattle.std.proofs.lemmas.Iterator.Adapters.{position_from-zero}
 use Rattle.world_core.proofs.Plain.{none-some}
 use Rattle.world_core.proofs.ClcFits.{serial-most}
-use Rattle.side_core.proofs.Carries.{take_kept}
 
 -- the counts are small
 made-few : (stage : Stage) → slice_index_or (map (λ k. made_in k (fabric_at stage)) (up_to 1)) 0 0 ≤ 1

@@ -22,7 +22,7 @@ use Rattle.pipe_model.specs.Ends.{Half, to_land, to_complete}
 use Rattle.pipe_model.specs.Pipe.{half}
 use Rattle.pipe_model.specs.Connections.{is_up, end_state, part, group_on}
 use Rattle.pipe_model.specs.Lending.{lends_by, terms_of, pipe_of}
-use Rattle.pipe_model.proofs.Facts.{lands-well, completes-well}
+use Rattle.pipe_model.proofs.Pipes.{lands-well, completes-well}
 use Rattle.rc_link.specs.declared.Carried.{Carried}
 use Rattle.rc_link.specs.Wire.{Queues, placed}
 use Rattle.conn_end.specs.Kept.{Kept}

@@ -17,7 +17,7 @@ use Rattle.pipe_model.specs.Parts.{IsMarked, IsCounted}
 use Rattle.pipe_model.specs.Connections.{deeds, if_own, items, part}
 use Rattle.pipe_model.specs.Lending.{terms_of}
 use Rattle.pipe_model.specs.Posts.{offered_place}
-use Rattle.pipe_model.proofs.Facts.{is-marked, is-counted}
+use Rattle.pipe_model.proofs.Pipes.{is-marked, is-counted}
 use Rattle.world_core.specs.Played.{IsOneLink, IsPlayed}
 use Rattle.world_core.specs.OneLink.{the_link}
 use Rattle.world_core.specs.Wired.{HasGone, EachItem, passes_by}

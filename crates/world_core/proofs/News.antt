@@ -25,7 +25,7 @@ use Rattle.pipe_model.specs.Connections.{items, part}
 use Rattle.pipe_model.specs.Lending.{terms_of}
 use Rattle.pipe_model.specs.Posts.{offered_place, cdc_posts, connection_posts}
 use Rattle.pipe_model.specs.Lawful.{draft}
-use Rattle.pipe_model.proofs.Carried.{carries-few}
+use Rattle.pipe_model.proofs.Pipes.{carries-few}
 use Rattle.world_core.specs.Played.{IsOneLink, IsPlayed}
 use Rattle.world_core.specs.OneLink.{the_link}
 use Rattle.world_core.specs.Wired.{HasGone, IsOpenSent, cdc_under, if_meant, message}

@@ -29,7 +29,7 @@ use Rattle.rc_link.specs.Wire.{Queues, placed, room_of}
 use Rattle.conn_end.specs.Kept.{Kept}
 use Rattle.side_core.specs.Records.{aimer}
 use Rattle.side_core.specs.Manager.{Manager, StandsFor}
-use Rattle.side_core.proofs.Allowed.{aimers_same}
+use Rattle.side_core.proofs.Managers.{aimers_same}
 use Rattle.world_core.specs.Played.{IsOneLink, IsPlayed}
 use Rattle.world_core.specs.OneLink.{the_link}
 use Rattle.world_core.specs.Wired.{cdc_under, message}

@@ -10,7 +10,7 @@ use Rattle.pipe_model.specs.declared.sent.Sent.{Sent}
 use Rattle.pipe_model.specs.Ends.{Half, comes_up, meets_fate, settle, is_due, posts_batch, batch, takes, completes, lands, to_land, to_complete}
 use Rattle.pipe_model.specs.Calls.{Call, calls}
 use Rattle.pipe_model.specs.Pipe.{Terms, Item, Up, Fate, Calls, Lands, Completes, half, pipe, sent_since}
-use Rattle.pipe_model.proofs.Settled.{nothing-due}
+use Rattle.pipe_model.proofs.Pipes.{nothing-due}
 use Rattle.world_core.proofs.Quiet.{not-due-down}
 
 -- nothing is due at the end of a part

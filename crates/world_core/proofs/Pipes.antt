@@ -15,7 +15,7 @@ use Rattle.pipe_model.specs.Calls.{Call, Writes, Reads}
 use Rattle.pipe_model.specs.Pipe.{Calls, Lands, Completes, half}
 use Rattle.pipe_model.specs.Connections.{is_up, call_on, deeds, part, group_on, landed_at, completed_at}
 use Rattle.pipe_model.specs.Lending.{terms_of, pipe_of}
-use Rattle.pipe_model.proofs.Unswallowed.{unswallowed-near}
+use Rattle.pipe_model.proofs.Pipes.{unswallowed-near}
 use Rattle.pipe_model.specs.Fits.{Fits}
 use Rattle.world_core.specs.Played.{IsPlayed}
 use Rattle.world_core.specs.OneLink.{the_link}

@@ -16,7 +16,7 @@ use Rattle.pipe_model.specs.Snapshot.{shows_gap, tells_same}
 use Rattle.pipe_model.specs.Closing.{cause_of, is_closing, is_group_gone, after_completing}
 use Rattle.pipe_model.specs.Ends.{Half, fresh, settle, is_due, is_over, meets_fate, takes, takes_snapshot, validates, strikes, completes, counts_completed, batch, present, posts_batch, to_land, to_complete, comes_up}
 use Rattle.pipe_model.specs.Pipe.{Pipe, Terms, Item, Fate, GroupEnd, Up, Calls, Lands, Completes, half, pipe, apply}
-use Rattle.pipe_model.proofs.Settled.{nothing-due}
+use Rattle.pipe_model.proofs.Pipes.{nothing-due}
 use Rattle.world_core.specs.Wired.{EachItem, keeps_open, IsOpenEnd, IsOpenSent}
 use Rattle.world_core.proofs.OpenEnds.{half-open, each-head, MaySent, takes-open-is}
 use Rattle.world_core.proofs.Growth.{either, settled-half}

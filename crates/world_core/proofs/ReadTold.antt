@@ -26,7 +26,7 @@ use Rattle.pipe_model.specs.Connections.{EndState, NoEnd, IsUp, HasFallen, end_s
 use Rattle.pipe_model.specs.Fallback.{is_fallen, is_fallen_state, fallen_read}
 use Rattle.pipe_model.specs.Lending.{pipe_of, terms_of, lends_by}
 use Rattle.pipe_model.specs.Replies.{told, end_told}
-use Rattle.pipe_model.proofs.Facts.{is-counted}
+use Rattle.pipe_model.proofs.Pipes.{is-counted}
 use Rattle.clc_handshake.specs.declared.stage.EndState.TheVariants.{Absent, Up, FellBack}
 use Rattle.clc_handshake.specs.Stages.{seen_state}
 use Rattle.conn_end.specs.Kept.{Kept}

@@ -13,7 +13,7 @@ use Rattle.rc_link.specs.declared.Carried.{Carried}
 use Rattle.rc_link.specs.Wire.{Queues, empty, room_of, with_post}
 use Rattle.side_core.specs.Records.{aimer, half_at}
 use Rattle.side_core.specs.Manager.{Manager, StandsFor}
-use Rattle.side_core.proofs.Allowed.{aimers_same}
+use Rattle.side_core.proofs.Managers.{aimers_same}
 use Rattle.world_core.specs.declared.host.Outflow.{Outflow}
 use Rattle.world_core.specs.Hosts.{with_posts}
 use Rattle.world_core.specs.Sending.{no_snapshot, plain_of, goes_on_wire, carried_from, posts_one, puts, puts_one, puts_all, outflow_at, wire_in, MaySendAll}

@@ -25,7 +25,7 @@ use Rattle.pipe_model.specs.Posts.{connection_posts}
 use Rattle.pipe_model.specs.Replies.{told}
 use Rattle.pipe_model.specs.Home.{cdc_in}
 use Rattle.pipe_model.specs.Lawful.{draft}
-use Rattle.pipe_model.proofs.Carried.{carries-few}
+use Rattle.pipe_model.proofs.Pipes.{carries-few}
 use Rattle.world_core.specs.Played.{IsOneLink, IsPlayed, handed}
 use Rattle.world_core.specs.OneLink.{Stage, the_link, the_key, the_keys, keys_at, fabric_at}
 use Rattle.world_core.specs.Sockets.{IsWorld}

@@ -19,7 +19,7 @@ use Rattle.pipe_model.specs.Pipe.{Item, Up, Pipe, Terms, half}
 use Rattle.pipe_model.specs.Parts.{IsCounted}
 use Rattle.pipe_model.specs.Connections.{comes_up, ups, fates, fate_of, deeds, items, part, group_on}
 use Rattle.pipe_model.specs.Lending.{Lending, lent, terms_of, pipe_of}
-use Rattle.pipe_model.proofs.Facts.{is-counted}
+use Rattle.pipe_model.proofs.Pipes.{is-counted}
 use Rattle.conn_end.specs.Kept.{Kept}
 use Rattle.side_core.specs.Records.{Connection, Stands, StandsAt, conn_at}
 use Rattle.side_core.specs.Manager.{Manager, StandsFor}

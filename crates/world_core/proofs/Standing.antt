@@ -2,7 +2,7 @@
 use Rattle.std.proofs.Common.{◌≡◌, ◌∙◌, ◌==◌, ◌⊎◌, inl, inr, ℕ, ◌+◌, ◌-◌, ◌%◌, ◌≤◌, Bool, true, false, List, [], ◌∷◌, length, take, drop, find, refl, ap, sym, subst, ◌&&◌, true≢false, arith, eqb-true, eq-eqb, drop-drop}
 use Rattle.smc_num.specs.declared.LinkId.{LinkId}
 use Rattle.pipe_model.specs.Parts.{IsCounted}
-use Rattle.pipe_model.proofs.Facts.{is-counted}
+use Rattle.pipe_model.proofs.Pipes.{is-counted}
 use Rattle.pipe_model.specs.Connections.{part}
 use Rattle.pipe_model.specs.Lending.{terms_of}
 use Rattle.world_core.proofs.Agreement.{agrees}

@@ -37,7 +37,7 @@ use Rattle.side_core.specs.Manager.{Manager, StandsFor, hand_at, state_at}
 use Rattle.side_core.specs.Acting.{IsSoundAt}
 use Rattle.side_core.specs.Records.{conn_at}
 use Rattle.side_core.specs.Taking.{MayTake, verdict_at, taking_told, taking_posts, takes_message, with_desk}
-use Rattle.side_core.proofs.Verdicts.{Tells, told as tells}
+use Rattle.side_core.proofs.Elements.{Tells, told as tells}
 use Rattle.world_core.specs.declared.host.Host.{Host}
 use Rattle.world_core.specs.declared.host.Untaken.{Untaken}
 use Rattle.world_core.specs.declared.host.Outflow.{Outflow}

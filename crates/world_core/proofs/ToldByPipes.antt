@@ -24,7 +24,7 @@ use Rattle.pipe_model.specs.Connections.{IsUp, is_up, early_state, end_state, ca
 use Rattle.pipe_model.specs.Lending.{terms_of, pipe_of, leaves_handshake}
 use Rattle.pipe_model.specs.Replies.{told, call_told, end_told}
 use Rattle.pipe_model.specs.Lawful.{asked, reply_of, answers, answers_on, as_claimed, is_call_of, read_as, read_near, was_told}
-use Rattle.pipe_model.proofs.LawfulSteps.{claimed-whole}
+use Rattle.pipe_model.proofs.Lawful.{claimed-whole}
 use Rattle.world_core.specs.Played.{IsOneLink, IsPlayed}
 use Rattle.world_core.specs.Heard.{all_bytes, told_bytes}
 use Rattle.world_core.specs.Wired.{EachItem, is_transfer}

@@ -19,7 +19,7 @@ use Rattle.pipe_model.specs.Pipe.{posts_of}
 use Rattle.pipe_model.specs.Parts.{IsMarked}
 use Rattle.pipe_model.specs.Connections.{items, part}
 use Rattle.pipe_model.specs.Lending.{terms_of}
-use Rattle.pipe_model.proofs.Facts.{is-marked}
+use Rattle.pipe_model.proofs.Pipes.{is-marked}
 use Rattle.rc_link.specs.declared.Carried.{Carried}
 use Rattle.rc_link.specs.Wire.{Queues, placed, empty, with_landed, with_completed, landed_with}
 use Rattle.world_core.specs.Played.{IsOneLink, IsMade, IsPlayed}

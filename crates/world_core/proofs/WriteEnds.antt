@@ -29,7 +29,7 @@ use Rattle.pipe_model.specs.Lending.{Lending, lends_by, terms_of, pipe_of, recor
 use Rattle.pipe_model.specs.Keys.{Keys, keys_of}
 use Rattle.pipe_model.specs.Home.{following_cdc}
 use Rattle.pipe_model.specs.Posts.{offered_place}
-use Rattle.pipe_model.proofs.Facts.{is-counted}
+use Rattle.pipe_model.proofs.Pipes.{is-counted}
 use Rattle.rc_link.specs.declared.Carried.{Carried}
 use Rattle.rc_link.specs.Wire.{Queues, placed, next_cdc}
 use Rattle.conn_end.specs.Kept.{Kept, StandsFor as EndStandsFor}

@@ -7,10 +7,8 @@ use Rattle.smc_num.specs.declared.LinkPhase.TheVariants.{Live}
 use Rattle.pipe_model.specs.declared.sent.Sent.{Sent}
 use Rattle.pipe_model.specs.Ends.{takes}
 use Rattle.pipe_model.specs.Parts.{snapshots}
-use Rattle.pipe_model.proofs.Lasting.{Lasts, lasting}
-use Rattle.pipe_model.proofs.Shuts.{and-parts}
+use Rattle.pipe_model.proofs.Pipes.{Lasts, lasting, and-parts, is-flying}
 use Rattle.pipe_model.specs.Pipe.{Lands}
-use Rattle.pipe_model.proofs.Facts.{is-flying}
 use Rattle.history_laws.specs.Words.{A, Aborts, Awaits, B, Call, Calls, Closes, Completes, Dead, Fate, Finishes, GroupEnd, Half, IsFeasible, Item, LinkId, LinkPhase, Pending, Pipe, Reads, Side, Terms, Unused, Up, Writes, after_close, after_completing, after_finish, after_moving, apply, calls, cause_of, check, completes, counts_completed, half, head, is_closing, is_due, is_due_for_move, is_ended, is_last, is_over, lowest_link, meets_fate, pipe, posts_batch, settle, step, takes_snapshot, to_complete, to_land, unread, validates, window}
 use Rattle.history_laws.proofs.Basics.{either}
 

@@ -3,7 +3,7 @@ use Rattle.std.proofs.Common.{Bool, List, [], ap, eq-eqb, false, if◌then◌els
 use Rattle.pipe_model.specs.Fallback.{front_of_posts, opens}
 use Rattle.std.specs.Prelude.{Some, is_some, option_map, unwrap_or}
 use Rattle.clc_wire.specs.declared.message.ClcMessage.TheVariants.{Accept as AcceptMessage, Confirm as ConfirmMessage, Decline as DeclineMessage, Proposal as ProposalMessage}
-use Rattle.pipe_model.proofs.ToldLast.{over-has-told}
+use Rattle.pipe_model.proofs.Pipes.{over-has-told}
 use Rattle.pipe_model.specs.declared.event.Event.TheVariants.{Clc as ClcEvent}
 use Rattle.pipe_model.specs.Handshake.{verdict}
 use Rattle.pipe_model.specs.declared.reply.Reply.TheVariants.{Sent}

@@ -6,7 +6,7 @@ use Rattle.pipe_model.specs.Fabric.{after}
 use Rattle.pipe_model.specs.Lawful.{asked}
 use Rattle.std.specs.List.{list_any}
 use Rattle.pipe_model.specs.Lending.{posts_last}
-use Rattle.pipe_model.proofs.ToldLast.{over-has-told}
+use Rattle.pipe_model.proofs.Pipes.{over-has-told}
 use Rattle.history_laws.specs.Words.{A, B, EachOf, Entry, Item, Lending, LinkId, Offered, Post, Setup, Side, Terms, connection_posts, draft, fabric, group_on, half, has_last, is_over, is_up, items, lends, lends_by, new_offer, offered, other, part, pipe, pipe_of, posts_of, terms_of, told_last}
 use Rattle.history_laws.specs.Made.{IsMadeAll, IsMade}
 use Rattle.history_laws.proofs.Basics.{by-bool, none-is, or-left, or-true, some-is}

@@ -3,8 +3,7 @@ use Rattle.std.proofs.Common.{Bool, List, [], ap, drop, eq-eqb, eqb-true, false,
 use Rattle.pipe_model.specs.Parts.{CarriesNone}
 use Rattle.pipe_model.specs.declared.sent.Sent.{Sent}
 use Rattle.pipe_model.specs.Ends.{fresh}
-use Rattle.pipe_model.proofs.Shuts.{and-parts}
-use Rattle.pipe_model.proofs.Quiet.{ends-with-last}
+use Rattle.pipe_model.proofs.Pipes.{and-parts, ends-with-last}
 use Rattle.std.specs.Prelude.{None, Some, find, map}
 use Rattle.pipe_model.specs.declared.post.Post.TheVariants.{Write}
 use Rattle.smc_num.specs.Places.{address_of}

@@ -3,7 +3,7 @@ use Rattle.std.proofs.Common.{List, [], ap, arith, drop, drop-drop, false, inr, 
 use Rattle.pipe_model.specs.declared.sent.Sent.{Sent}
 use Rattle.std.proofs.lemmas.List.{drop-append-le}
 use Rattle.std.proofs.Math.Seq.{drop-append_seam}
-use Rattle.pipe_model.proofs.Facts.{is-marked}
+use Rattle.pipe_model.proofs.Pipes.{is-marked}
 use Rattle.pipe_model.specs.Calls.{Moves}
 use Rattle.history_laws.specs.Words.{Calls, EachOf, Entry, Half, IsMarked, Item, Setup, Side, Terms, deeds, group_on, half, is_due_for_move, part, pipe, same_side, step, terms_of, to_complete}
 use Rattle.history_laws.proofs.Basics.{by-bool, each-drop, same-is}

@@ -2,7 +2,7 @@
 use Rattle.pipe_model.specs.declared.sent.Sent.{Sent}
 use Rattle.std.proofs.Common.{Bool, List, [], ap, arith, drop, false, if◌then◌else◌, inl, inr, length, map, not, refl, subst, suc, sym, true, true≢false, ℕ, ◌&&◌, ◌++◌, ◌-◌, ◌<◌, ◌||◌, ◌∙◌, ◌∷◌, ◌≡◌, ◌⊎◌}
 use Rattle.pipe_model.specs.Pipe.{Lands}
-use Rattle.pipe_model.proofs.Facts.{is-marked}
+use Rattle.pipe_model.proofs.Pipes.{is-marked}
 use Rattle.std.specs.Prelude.{Some}
 use Rattle.pipe_model.specs.Calls.{Moves}
 use Rattle.pipe_model.specs.Wires.{may_swallow}

@@ -1,4 +1,4 @@
-use Rattle.pipe_model.proofs.KeptCauses.{pipe-keeps, cause-stays}
+use Rattle.pipe_model.proofs.Lawful.{pipe-keeps, cause-stays}
 use Rattle.pipe_model.proofs.laws.a_kept_cause_stays.Goals as goal
 
 pub returns-clause-pipe : goal.returns-clause-pipe

@@ -1,4 +1,4 @@
-use Rattle.pipe_model.proofs.LawfulSteps.{told-by-part}
+use Rattle.pipe_model.proofs.Lawful.{told-by-part}
 use Rattle.pipe_model.proofs.laws.equal_parts_are_told_the_same.Goals as goal
 
 pub returns : goal.returns

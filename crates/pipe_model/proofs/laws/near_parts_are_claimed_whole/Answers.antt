@@ -1,4 +1,4 @@
-use Rattle.pipe_model.proofs.LawfulSteps.{near-whole}
+use Rattle.pipe_model.proofs.Lawful.{near-whole}
 use Rattle.pipe_model.proofs.laws.near_parts_are_claimed_whole.Goals as goal
 
 pub returns : goal.returns

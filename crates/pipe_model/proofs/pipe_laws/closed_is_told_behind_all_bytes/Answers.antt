@@ -1,4 +1,4 @@
-use Rattle.pipe_model.proofs.Shuts.{closes-behind-all}
+use Rattle.pipe_model.proofs.Pipes.{closes-behind-all}
 use Rattle.pipe_model.proofs.pipe_laws.closed_is_told_behind_all_bytes.Goals as goal
 
 pub returns : goal.returns

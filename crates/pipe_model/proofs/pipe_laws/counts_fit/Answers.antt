@@ -1,4 +1,4 @@
-use Rattle.pipe_model.proofs.Facts.{is-counted}
+use Rattle.pipe_model.proofs.Pipes.{is-counted}
 use Rattle.pipe_model.proofs.pipe_laws.counts_fit.Goals as goal
 
 pub returns : goal.returns

@@ -1,4 +1,4 @@
-use Rattle.pipe_model.proofs.Facts.{is-marked}
+use Rattle.pipe_model.proofs.Pipes.{is-marked}
 use Rattle.pipe_model.proofs.pipe_laws.marks_fit.Goals as goal
 
 pub returns : goal.returns

@@ -1,4 +1,4 @@
-use Rattle.pipe_model.proofs.Quiet.{ends-with-last}
+use Rattle.pipe_model.proofs.Pipes.{ends-with-last}
 use Rattle.pipe_model.proofs.pipe_laws.no_bytes_follow_the_last_snapshot.Goals as goal
 
 pub returns : goal.returns

@@ -1,4 +1,4 @@
-use Rattle.pipe_model.proofs.Spelling.{counts-back, number-back, read-back}
+use Rattle.pipe_model.proofs.Pipes.{counts-back, number-back, read-back}
 use Rattle.pipe_model.proofs.pipe_laws.reads_back.Goals as goal
 
 pub returns-clause-counts : goal.returns-clause-counts

@@ -1,4 +1,4 @@
-use Rattle.pipe_model.proofs.Whole.{next-joins}
+use Rattle.pipe_model.proofs.Pipes.{next-joins}
 use Rattle.pipe_model.proofs.pipe_laws.the_next_bytes_go_on.Goals as goal
 
 pub returns : goal.returns

@@ -1,4 +1,4 @@
-use Rattle.pipe_model.proofs.Whole.{told-landed}
+use Rattle.pipe_model.proofs.Pipes.{told-landed}
 use Rattle.pipe_model.proofs.pipe_laws.told_bytes_have_landed.Goals as goal
 
 pub returns : goal.returns

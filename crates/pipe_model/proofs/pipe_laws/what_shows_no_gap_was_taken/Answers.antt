@@ -1,4 +1,4 @@
-use Rattle.pipe_model.proofs.Near.{no-gap}
+use Rattle.pipe_model.proofs.Pipes.{no-gap}
 use Rattle.pipe_model.proofs.pipe_laws.what_shows_no_gap_was_taken.Goals as goal
 
 pub returns : goal.returns

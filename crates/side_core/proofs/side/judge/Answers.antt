@@ -4,7 +4,7 @@ use Rattle.clc_handshake.specs.Stages.{Hand, after_step}
 use Rattle.pipe_model.specs.Handshake.{verdict}
 use Rattle.pipe_model.specs.Replies.{expects}
 use Rattle.side_core.specs.Manager.{hand_in, hand_of}
-use Rattle.side_core.proofs.Hands.{hands_set, hand_found}
+use Rattle.side_core.proofs.Sockets.{hands_set, hand_found}
 use Rattle.side_core.proofs.side.judge.Goals as goal
 
 pub returns-clause-step : goal.returns-clause-step

@@ -3,7 +3,7 @@ use Rattle.std.specs.Prelude.{slice_set}
 use Rattle.clc_handshake.specs.Stages.{Hand}
 use Rattle.pipe_model.specs.Connections.{NoEnd, WaitsLink, IsUp}
 use Rattle.side_core.specs.Manager.{hand_in, hand_of}
-use Rattle.side_core.proofs.Hands.{hands_set, hand_found}
+use Rattle.side_core.proofs.Sockets.{hands_set, hand_found}
 use Rattle.side_core.proofs.side.rise_hand.Goals as goal
 
 pub returns : goal.returns

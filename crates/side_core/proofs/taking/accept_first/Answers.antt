@@ -6,8 +6,8 @@ use Rattle.side_core.specs.Taking.{accepts}
 use Rattle.side_core.specs.Taking.{with_desk}
 use Rattle.side_core.specs.Desk.{begins_group, next_place, new_offer}
 use Rattle.smc_num.specs.Links.{live_links}
-use Rattle.side_core.proofs.Workings.{works_desk}
-use Rattle.side_core.proofs.Offering.{accept_post}
+use Rattle.side_core.proofs.Ends.{works_desk}
+use Rattle.side_core.proofs.Elements.{accept_post}
 use Rattle.side_core.proofs.taking.accept_first.Goals as goal
 
 -- src/taking.rt:110:1

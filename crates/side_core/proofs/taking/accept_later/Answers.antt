@@ -4,8 +4,7 @@ use Rattle.smc_num.specs.Links.{live_links}
 use Rattle.side_core.specs.Taking.{links_in_use}
 use Rattle.pipe_model.specs.Posts.{lightest}
 use Rattle.side_core.specs.Desk.{new_offer}
-use Rattle.side_core.proofs.OneRmb.{one_live}
-use Rattle.side_core.proofs.Offering.{accept_post}
+use Rattle.side_core.proofs.Elements.{one_live, accept_post}
 use Rattle.side_core.proofs.taking.accept_later.Goals as goal
 
 -- src/taking.rt:133:1

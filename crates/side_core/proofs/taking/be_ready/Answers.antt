@@ -8,8 +8,8 @@ use Rattle.side_core.specs.Taking.{rises_at, hears}
 use Rattle.side_core.specs.Taking.{with_desk, hears, rises_at}
 use Rattle.side_core.specs.Desk.{learns_offer}
 use Rattle.side_core.specs.Acting.{risen_at}
-use Rattle.side_core.proofs.Workings.{works_desk, works_hears, some_there, some_within}
-use Rattle.side_core.proofs.Hearing.{may_rise_heard}
+use Rattle.side_core.proofs.Ends.{works_desk, works_hears, some_there, some_within}
+use Rattle.side_core.proofs.Managers.{may_rise_heard}
 use Rattle.side_core.proofs.taking.be_ready.Goals as goal
 
 -- src/taking.rt:231:5

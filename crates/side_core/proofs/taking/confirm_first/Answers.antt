@@ -5,9 +5,9 @@ use Rattle.side_core.specs.Taking.{starts}
 use Rattle.side_core.specs.Taking.{with_desk, starts}
 use Rattle.side_core.specs.Desk.{begins_group, makes_link, learns_offer, next_place, new_offer}
 use Rattle.smc_num.specs.Links.{live_links}
-use Rattle.side_core.proofs.Workings.{works_desk, works_hears}
-use Rattle.side_core.proofs.Hearing.{started_facts}
-use Rattle.side_core.proofs.Offering.{confirm_post}
+use Rattle.side_core.proofs.Ends.{works_desk, works_hears}
+use Rattle.side_core.proofs.Managers.{started_facts}
+use Rattle.side_core.proofs.Elements.{confirm_post}
 use Rattle.side_core.proofs.taking.confirm_first.Goals as goal
 
 -- src/taking.rt:178:5

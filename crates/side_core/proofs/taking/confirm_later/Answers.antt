@@ -5,9 +5,9 @@ use Rattle.side_core.specs.Taking.{starts, hears}
 use Rattle.side_core.specs.Taking.{hears, starts}
 use Rattle.side_core.specs.Desk.{new_offer}
 use Rattle.side_core.specs.Acting.{risen_at}
-use Rattle.side_core.proofs.Workings.{works_hears}
-use Rattle.side_core.proofs.Hearing.{started_facts, may_rise_new}
-use Rattle.side_core.proofs.Offering.{confirm_post}
+use Rattle.side_core.proofs.Ends.{works_hears}
+use Rattle.side_core.proofs.Managers.{started_facts, may_rise_new}
+use Rattle.side_core.proofs.Elements.{confirm_post}
 use Rattle.side_core.proofs.taking.confirm_later.Goals as goal
 
 -- src/taking.rt:201:5

@@ -1,6 +1,6 @@
 use Rattle.std.proofs.Common.{◌++◌, sym, ◌∙◌, ap}
-use Rattle.side_core.proofs.Workings.{works_rises, route_within}
-use Rattle.side_core.proofs.Hearing.{rising}
+use Rattle.side_core.proofs.Ends.{works_rises, route_within}
+use Rattle.side_core.proofs.Managers.{rising}
 use Rattle.side_core.proofs.taking.rise.Goals as goal
 
 -- src/taking.rt:248:1

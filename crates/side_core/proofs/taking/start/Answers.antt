@@ -1,4 +1,4 @@
-use Rattle.side_core.proofs.Workings.{works_start}
+use Rattle.side_core.proofs.Ends.{works_start}
 use Rattle.side_core.proofs.taking.start.Goals as goal
 
 -- src/taking.rt:100:1

@@ -1,5 +1,5 @@
 use Rattle.side_core.specs.FirstRow.{a_confirmed}
-use Rattle.side_core.proofs.FirstRow.{may_answer, sound_answer, answers}
+use Rattle.side_core.proofs.FirstConnection.{may_answer, sound_answer, answers}
 use Rattle.side_core.proofs.tests.answer_link.Goals as goal
 
 pub land_llc-step-requires-clause-may : goal.land_llc-step-requires-clause-may

@@ -1,5 +1,5 @@
 use Rattle.side_core.specs.FirstRow.{b_made}
-use Rattle.side_core.proofs.FirstRow.{may_ask, sound_ask}
+use Rattle.side_core.proofs.FirstConnection.{may_ask, sound_ask}
 use Rattle.side_core.proofs.tests.ask_link.Goals as goal
 
 pub take_clc-reply-requires-clause-may : goal.take_clc-reply-requires-clause-may

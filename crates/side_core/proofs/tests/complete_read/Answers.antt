@@ -1,5 +1,5 @@
 use Rattle.side_core.specs.FirstRow.{b_sent, b_read}
-use Rattle.side_core.proofs.FirstBytes.{may_complete_read, completes_read}
+use Rattle.side_core.proofs.FirstConnection.{may_complete_read, completes_read}
 use Rattle.side_core.proofs.tests.complete_read.Goals as goal
 
 pub complete-requires-clause-may : goal.complete-requires-clause-may

@@ -1,5 +1,5 @@
 use Rattle.side_core.specs.FirstRow.{a_sent, a_heard}
-use Rattle.side_core.proofs.FirstBytes.{may_complete_written, completes_written}
+use Rattle.side_core.proofs.FirstConnection.{may_complete_written, completes_written}
 use Rattle.side_core.proofs.tests.complete_written.Goals as goal
 
 pub complete-requires-clause-may : goal.complete-requires-clause-may

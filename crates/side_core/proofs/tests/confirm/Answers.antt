@@ -1,5 +1,5 @@
 use Rattle.side_core.specs.FirstRow.{a_open}
-use Rattle.side_core.proofs.FirstRow.{may_confirm}
+use Rattle.side_core.proofs.FirstConnection.{may_confirm}
 use Rattle.side_core.proofs.tests.confirm.Goals as goal
 
 pub take_clc-reply-requires-clause-may : goal.take_clc-reply-requires-clause-may

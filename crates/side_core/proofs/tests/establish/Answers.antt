@@ -1,5 +1,5 @@
 use Rattle.side_core.specs.FirstRow.{b_ready}
-use Rattle.side_core.proofs.FirstRow.{may_establish, sound_establish, establishes}
+use Rattle.side_core.proofs.FirstConnection.{may_establish, sound_establish, establishes}
 use Rattle.side_core.proofs.tests.establish.Goals as goal
 
 pub land_llc-step-requires-clause-may : goal.land_llc-step-requires-clause-may

@@ -1,5 +1,5 @@
 use Rattle.side_core.specs.FirstRow.{b_sent, a_wrote}
-use Rattle.side_core.proofs.FirstBytes.{may_hear_read, hears_read}
+use Rattle.side_core.proofs.FirstConnection.{may_hear_read, hears_read}
 use Rattle.side_core.proofs.tests.hear_read.Goals as goal
 
 pub land_cdc-dropped-requires-clause-may : goal.land_cdc-dropped-requires-clause-may

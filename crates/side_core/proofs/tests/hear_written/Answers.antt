@@ -1,5 +1,5 @@
 use Rattle.side_core.specs.FirstRow.{a_sent, b_landed}
-use Rattle.side_core.proofs.FirstBytes.{may_hear_written, hears_written}
+use Rattle.side_core.proofs.FirstConnection.{may_hear_written, hears_written}
 use Rattle.side_core.proofs.tests.hear_written.Goals as goal
 
 pub land_cdc-dropped-requires-clause-may : goal.land_cdc-dropped-requires-clause-may

@@ -1,6 +1,6 @@
 use Rattle.std.proofs.Common.{◌++◌, refl}
 use Rattle.side_core.specs.FirstRow.{b_linked}
-use Rattle.side_core.proofs.FirstBytes.{may_go, bytes_are, may_write, bytes_landed}
+use Rattle.side_core.proofs.FirstConnection.{may_go, bytes_are, may_write, bytes_landed}
 use Rattle.side_core.proofs.tests.land_bytes.Goals as goal
 
 pub outgoing-requires : goal.outgoing-requires

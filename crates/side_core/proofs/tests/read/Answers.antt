@@ -1,5 +1,5 @@
 use Rattle.side_core.specs.FirstRow.{b_heard}
-use Rattle.side_core.proofs.FirstBytes.{up_read, sound_read}
+use Rattle.side_core.proofs.FirstConnection.{up_read, sound_read}
 use Rattle.side_core.proofs.tests.read.Goals as goal
 
 pub read-reply-requires-clause-up : goal.read-reply-requires-clause-up

@@ -1,5 +1,5 @@
 use Rattle.side_core.specs.FirstRow.{a_linked}
-use Rattle.side_core.proofs.FirstBytes.{up_write, sound_write}
+use Rattle.side_core.proofs.FirstConnection.{up_write, sound_write}
 use Rattle.side_core.proofs.tests.write.Goals as goal
 
 pub write-reply-requires-clause-up : goal.write-reply-requires-clause-up

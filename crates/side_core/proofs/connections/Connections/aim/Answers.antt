@@ -5,9 +5,8 @@ use Rattle.conn_end.specs.Kept.{Kept}
 use Rattle.side_core.specs.Records.{Connection, Records, AllStand, aimer, aims, conn_at, is_aimed_at}
 use Rattle.side_core.specs.Slots.{conn_of, slot_at, with_slot}
 use Rattle.side_core.specs.Inside.{IsFiled, IsFiledAt, made_with, records_of}
-use Rattle.side_core.proofs.Tokens.{none_found}
-use Rattle.side_core.proofs.Tables.{table_aimed, filed_aimed}
-use Rattle.side_core.proofs.Standing.{IsFound, there_within, finds_plain, changed_stands, aimed_stands}
+use Rattle.side_core.proofs.Sockets.{none_found, table_aimed, filed_aimed}
+use Rattle.side_core.proofs.Ends.{IsFound, there_within, finds_plain, changed_stands, aimed_stands}
 use Rattle.side_core.proofs.connections.Connections.aim.Goals as goal
 
 pub invariant_of-self : goal.invariant_of-self

@@ -5,7 +5,7 @@ use Rattle.pipe_model.specs.Words.{passes}
 use Rattle.clc_wire.specs.declared.offer.Offer.{Offer}
 use Rattle.side_core.specs.Records.{Connection, aimer, is_aimed_at}
 use Rattle.side_core.specs.Inside.{made_with, socket_named}
-use Rattle.side_core.proofs.Tokens.{aimer_is, aimer_none}
+use Rattle.side_core.proofs.Sockets.{aimer_is, aimer_none}
 use Rattle.side_core.proofs.connections.Connections.aimer.Goals as goal
 
 pub returns-in_err-s : goal.returns-in_err-s

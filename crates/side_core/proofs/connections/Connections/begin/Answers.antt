@@ -5,9 +5,8 @@ use Rattle.pipe_model.specs.Ends.{fresh}
 use Rattle.conn_end.specs.Kept.{Kept, StandsFor}
 use Rattle.side_core.specs.Records.{Connection, Records, AllStand, begins, new_route}
 use Rattle.side_core.specs.Inside.{IsTable, IsFiled, IsMade, made_with, records_of}
-use Rattle.side_core.proofs.Tokens.{named_last}
-use Rattle.side_core.proofs.Tables.{table_begun, last_made}
-use Rattle.side_core.proofs.Standing.{begun_stands}
+use Rattle.side_core.proofs.Sockets.{named_last, table_begun, last_made}
+use Rattle.side_core.proofs.Ends.{begun_stands}
 use Rattle.side_core.proofs.connections.Connections.begin.Goals as goal
 
 pub invariant_of-self : goal.invariant_of-self

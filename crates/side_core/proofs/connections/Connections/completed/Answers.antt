@@ -9,10 +9,8 @@ use Rattle.side_core.specs.Records.{Connection, Records, AllStand, conn_at, sett
 use Rattle.side_core.specs.Slots.{conn_of, slot_at, with_slot}
 use Rattle.side_core.specs.Inside.{IsFiled, IsFiledAt, made_with, records_of}
 use Rattle.side_core.specs.Posting.{IsWay, posts_at}
-use Rattle.side_core.proofs.Keeping.{completes_alike}
-use Rattle.side_core.proofs.Acting.{filed_after}
-use Rattle.side_core.proofs.Tables.{table_changed}
-use Rattle.side_core.proofs.Standing.{IsFound, there_within, finds_plain, is_way, settles_at, on_way, posted}
+use Rattle.side_core.proofs.Ends.{completes_alike, filed_after, IsFound, there_within, finds_plain, is_way, settles_at, on_way, posted}
+use Rattle.side_core.proofs.Sockets.{table_changed}
 use Rattle.side_core.proofs.connections.Connections.completed.Goals as goal
 
 pub invariant_of-self : goal.invariant_of-self

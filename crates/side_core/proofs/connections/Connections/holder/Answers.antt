@@ -3,7 +3,7 @@ use Rattle.std.proofs.lemmas.Bool.{eq-eqb, ne_eqb}
 use Rattle.conn_end.specs.Kept.{Kept}
 use Rattle.side_core.specs.Records.{Connection, holder, has_token}
 use Rattle.side_core.specs.Inside.{made_with, socket_named}
-use Rattle.side_core.proofs.Tokens.{holder_is, holder_none}
+use Rattle.side_core.proofs.Sockets.{holder_is, holder_none}
 use Rattle.side_core.proofs.connections.Connections.holder.Goals as goal
 
 pub returns-in_err-s : goal.returns-in_err-s

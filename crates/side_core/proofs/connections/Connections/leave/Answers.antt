@@ -5,8 +5,8 @@ use Rattle.conn_end.specs.Kept.{Kept}
 use Rattle.side_core.specs.Records.{Connection, Records, AllStand, leaves}
 use Rattle.side_core.specs.Slots.{conn_of}
 use Rattle.side_core.specs.Inside.{IsTable, made_with, records_of}
-use Rattle.side_core.proofs.Tables.{table_left}
-use Rattle.side_core.proofs.Standing.{there_within, left_stands}
+use Rattle.side_core.proofs.Sockets.{table_left}
+use Rattle.side_core.proofs.Ends.{there_within, left_stands}
 use Rattle.side_core.proofs.connections.Connections.leave.Goals as goal
 
 pub invariant_of-self : goal.invariant_of-self

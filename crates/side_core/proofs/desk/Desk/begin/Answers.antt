@@ -1,5 +1,5 @@
 use Rattle.std.proofs.Common.{◌∙◌, ap}
-use Rattle.side_core.proofs.Beginning.{begun_offer}
+use Rattle.side_core.proofs.Elements.{begun_offer}
 use Rattle.side_core.proofs.desk.Desk.begin.Goals as goal
 
 -- src/desk.rt:369:5

@@ -1,8 +1,7 @@
 use Rattle.std.proofs.Common.{Some}
 use Rattle.pipe_model.specs.Ends.{Half, completes}
 use Rattle.conn_end.specs.Kept.{Kept}
-use Rattle.side_core.proofs.Acting.{set_after, number_after, settled}
-use Rattle.side_core.proofs.Keeping.{completes_alike}
+use Rattle.side_core.proofs.Ends.{set_after, number_after, settled, completes_alike}
 use Rattle.side_core.specs.Slots.{conn_of}
 use Rattle.side_core.proofs.record.Record.completed.Goals as goal
 

@@ -8,8 +8,7 @@ use Rattle.pipe_model.specs.Ends.{Half, settle}
 use Rattle.conn_end.specs.Kept.{Kept}
 use Rattle.conn_end.proofs.Owners.{with_zeros, stands_for_zeros}
 use Rattle.side_core.specs.Slots.{conn_of}
-use Rattle.side_core.proofs.Acting.{set_after, may_post_so, may_post_is}
-use Rattle.side_core.proofs.Dues.{nothing_due, no_peer, posts_due}
+use Rattle.side_core.proofs.Ends.{set_after, may_post_so, may_post_is, nothing_due, no_peer, posts_due}
 use Rattle.side_core.proofs.record.Record.post_due.Goals as goal
 
 pub returns-in_default-clause-posts : goal.returns-in_default-clause-posts

@@ -2,8 +2,7 @@ use Rattle.pipe_model.specs.Ends.{Half}
 use Rattle.pipe_model.specs.Calls.{Writes, calls}
 use Rattle.conn_end.specs.Kept.{Kept, StandsFor}
 use Rattle.conn_end.proofs.Owners.{with_zeros, stands_for_zeros}
-use Rattle.side_core.proofs.Acting.{set_after, number_after, settled}
-use Rattle.side_core.proofs.Keeping.{writes_alike}
+use Rattle.side_core.proofs.Ends.{set_after, number_after, settled, writes_alike}
 use Rattle.side_core.specs.Slots.{conn_of}
 use Rattle.side_core.proofs.record.Record.write.Goals as goal
 

@@ -2,7 +2,7 @@ use Rattle.std.proofs.Common.{◌≡◌, ◌∙◌, Some, None, get_or, refl, sy
 use Rattle.slab.specs.Slab.{get}
 use Rattle.side_core.specs.Slots.{Slots, slot_at, with_slot, conn_of}
 use Rattle.side_core.specs.declared.shelf.Held.{Held}
-use Rattle.side_core.proofs.Shelving.{key_here, finds, written}
+use Rattle.side_core.proofs.Sockets.{key_here, finds, written}
 use Rattle.side_core.proofs.shelf.Shelf.get_mut.Goals as goal
 
 pub returns : goal.returns

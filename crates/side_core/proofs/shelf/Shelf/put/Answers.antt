@@ -1,7 +1,7 @@
 use Rattle.std.proofs.Common.{◌∙◌, Some, ap, set, refl}
 use Rattle.side_core.specs.Slots.{Slots, conn_of}
 use Rattle.side_core.specs.declared.shelf.Held.{Held}
-use Rattle.side_core.proofs.Shelving.{put_slots, put_owns, key_within}
+use Rattle.side_core.proofs.Sockets.{put_slots, put_owns, key_within}
 use Rattle.side_core.proofs.shelf.Shelf.put.Goals as goal
 
 pub invariant_of-self : goal.invariant_of-self

@@ -1,6 +1,6 @@
 use Rattle.std.proofs.Common.{◌≡◌, ◌∙◌, Some, None, get_or, ap, set, subst, sym, IsSome}
 use Rattle.side_core.specs.Slots.{Slots, slot_at}
-use Rattle.side_core.proofs.Shelving.{take_slots, take_owns, key_here}
+use Rattle.side_core.proofs.Sockets.{take_slots, take_owns, key_here}
 use Rattle.side_core.proofs.shelf.Shelf.take.Goals as goal
 
 pub invariant_of-self : goal.invariant_of-self

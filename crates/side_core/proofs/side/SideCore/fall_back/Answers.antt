@@ -4,9 +4,8 @@ use Rattle.conn_end.specs.Kept.{Kept}
 use Rattle.clc_handshake.specs.Stages.{Hand}
 use Rattle.side_core.specs.Fit.{IsManager, IsFit}
 use Rattle.side_core.specs.Manager.{Manager, StandsFor, hand_of, state_at, with_hand}
-use Rattle.side_core.proofs.Acts.{falls_fit}
-use Rattle.side_core.proofs.Hands.{handed, hand_kept}
-use Rattle.side_core.proofs.Managing.{same_state}
+use Rattle.side_core.proofs.Sockets.{falls_fit, handed, hand_kept}
+use Rattle.side_core.proofs.Managers.{same_state}
 use Rattle.side_core.proofs.side.SideCore.fall_back.Goals as goal
 
 pub invariant_of-self : goal.invariant_of-self

@@ -8,9 +8,8 @@ use Rattle.side_core.specs.Landing.{MayLandIn, LandsIn}
 use Rattle.side_core.specs.Acting.{acts_at, due_at}
 use Rattle.side_core.specs.Fit.{IsManager}
 use Rattle.side_core.specs.Manager.{Manager, StandsFor, hand_of}
-use Rattle.side_core.proofs.Acts.{acts_fit}
-use Rattle.side_core.proofs.Doings.{IsWayOf, acted, acted_posts, takes_leave}
-use Rattle.side_core.proofs.Arriving.{Comes, comes, comes_there, some_same}
+use Rattle.side_core.proofs.Sockets.{acts_fit, Comes, comes, comes_there, some_same}
+use Rattle.side_core.proofs.Ends.{IsWayOf, acted, acted_posts, takes_leave}
 use Rattle.side_core.proofs.side.SideCore.land_cdc.Goals as goal
 
 pub invariant_of-self : goal.invariant_of-self

@@ -5,8 +5,7 @@ use Rattle.side_core.specs.Fit.{IsManager}
 use Rattle.side_core.specs.Manager.{Manager, StandsFor, hand_of}
 use Rattle.pipe_model.specs.declared.post.Post.{Post}
 use Rattle.side_core.specs.Acting.{IsSoundAt, MayConfirm}
-use Rattle.side_core.proofs.Linking.{heard_by, confirmed_posts}
-use Rattle.side_core.proofs.Confirming.{confirmed_kept, confirmed_all, confirming_works, may_rise}
+use Rattle.side_core.proofs.Managers.{heard_by, confirmed_posts, confirmed_kept, confirmed_all, confirming_works, may_rise}
 use Rattle.side_core.proofs.side.SideCore.land_llc.Goals as goal
 
 pub confirmed-requires-clause-first : goal.confirmed-requires-clause-first

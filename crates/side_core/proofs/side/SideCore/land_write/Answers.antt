@@ -4,7 +4,7 @@ use Rattle.side_core.specs.Fit.{IsManager}
 use Rattle.side_core.specs.Manager.{Manager, hand_of}
 use Rattle.rmb_region.specs.Regions.{Buffer}
 use Rattle.std.proofs.Common.{◌++◌}
-use Rattle.side_core.proofs.Arriving.{bytes_kept}
+use Rattle.side_core.proofs.Sockets.{bytes_kept}
 use Rattle.side_core.proofs.side.SideCore.land_write.Goals as goal
 
 pub invariant_of-self : goal.invariant_of-self

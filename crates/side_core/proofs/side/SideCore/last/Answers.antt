@@ -1,5 +1,5 @@
 use Rattle.std.proofs.Common.{◌∙◌, sym}
-use Rattle.side_core.proofs.Arriving.{aimer_there}
+use Rattle.side_core.proofs.Sockets.{aimer_there}
 use Rattle.side_core.proofs.side.SideCore.last.Goals as goal
 
 pub last-requires : goal.last-requires

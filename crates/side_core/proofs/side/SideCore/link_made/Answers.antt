@@ -6,8 +6,8 @@ use Rattle.side_core.specs.Manager.{Manager, hand_of}
 use Rattle.side_core.specs.Landing.{CanMake}
 use Rattle.side_core.specs.Desk.{makes_link}
 use Rattle.side_core.specs.Taking.{with_desk}
-use Rattle.side_core.proofs.Acts.{makes_fit}
-use Rattle.side_core.proofs.Linking.{made_works}
+use Rattle.side_core.proofs.Sockets.{makes_fit}
+use Rattle.side_core.proofs.Managers.{made_works}
 use Rattle.side_core.proofs.side.SideCore.link_made.Goals as goal
 
 pub invariant_of-self : goal.invariant_of-self

@@ -3,7 +3,7 @@ use Rattle.conn_end.specs.Kept.{Kept}
 use Rattle.pipe_model.specs.Words.{elements_of}
 use Rattle.side_core.specs.Desk.{Desk}
 use Rattle.side_core.specs.Manager.{Manager, hand_of}
-use Rattle.side_core.proofs.Newly.{AreNew, newly, newly_kept, newly_stands}
+use Rattle.side_core.proofs.Managers.{AreNew, newly, newly_kept, newly_stands}
 use Rattle.side_core.proofs.side.SideCore.new.Goals as goal
 
 pub invariant_of-result : goal.invariant_of-result

@@ -6,9 +6,8 @@ use Rattle.smc_num.specs.declared.Side.{Side}
 use Rattle.side_core.specs.Desk.{Desk}
 use Rattle.side_core.specs.Fit.{IsManager, IsFit}
 use Rattle.side_core.specs.Manager.{Manager, StandsFor, hand_of, state_at, with_hand}
-use Rattle.side_core.proofs.Acts.{opens_fit}
-use Rattle.side_core.proofs.Hands.{handed, hand_kept}
-use Rattle.side_core.proofs.Managing.{same_state}
+use Rattle.side_core.proofs.Sockets.{opens_fit, handed, hand_kept}
+use Rattle.side_core.proofs.Managers.{same_state}
 use Rattle.side_core.proofs.side.SideCore.open.Goals as goal
 
 pub invariant_of-self : goal.invariant_of-self

@@ -5,15 +5,14 @@ use Rattle.side_core.specs.Records.{conn_at}
 use Rattle.side_core.specs.Acting.{call_of, acts_at}
 use Rattle.side_core.specs.Fit.{IsManager}
 use Rattle.side_core.specs.Manager.{Manager, StandsFor, hand_of, state_at}
-use Rattle.side_core.proofs.Acts.{acts_fit}
-use Rattle.side_core.proofs.Doings.{IsWayOf, called, called_posts, reads_leave}
-use Rattle.side_core.proofs.Managing.{up_has}
+use Rattle.side_core.proofs.Sockets.{acts_fit}
+use Rattle.side_core.proofs.Ends.{IsWayOf, called, called_posts, reads_leave}
+use Rattle.side_core.proofs.Managers.{up_has, handable}
 use Rattle.std.proofs.Common.{Option}
 use Rattle.side_core.specs.declared.route.Route.{Route}
 use Rattle.side_core.specs.Records.{route_at}
 use Rattle.side_core.specs.Acting.{IsSoundAt, MayHand}
 use Rattle.rmb_region.specs.Regions.{Buffer}
-use Rattle.side_core.proofs.Handing.{handable}
 use Rattle.side_core.proofs.side.SideCore.read.Goals as goal
 
 pub invariant_of-self : goal.invariant_of-self

@@ -10,7 +10,7 @@ use Rattle.side_core.specs.Acting.{IsSoundAt}
 use Rattle.side_core.specs.Fit.{Allows, IsManager}
 use Rattle.side_core.specs.Manager.{Manager, StandsFor, hand_of, hand_at, state_at}
 use Rattle.side_core.specs.Taking.{MayTake, takes_message, verdict_at}
-use Rattle.side_core.proofs.Judging.{judged, never_asks, same_verdict, taken_kept, taken_stands, working}
+use Rattle.side_core.proofs.Managers.{judged, never_asks, same_verdict, taken_kept, taken_stands, working}
 use Rattle.side_core.proofs.side.SideCore.take_clc.Goals as goal
 
 pub carry_out-requires-clause-may : goal.carry_out-requires-clause-may

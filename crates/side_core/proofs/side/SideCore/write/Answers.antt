@@ -5,9 +5,9 @@ use Rattle.side_core.specs.Records.{conn_at}
 use Rattle.side_core.specs.Acting.{call_of, acts_at}
 use Rattle.side_core.specs.Fit.{IsManager}
 use Rattle.side_core.specs.Manager.{Manager, StandsFor, hand_of, state_at}
-use Rattle.side_core.proofs.Acts.{acts_fit}
-use Rattle.side_core.proofs.Doings.{IsWayOf, called, called_posts, writes_leave, write_told}
-use Rattle.side_core.proofs.Managing.{up_has}
+use Rattle.side_core.proofs.Sockets.{acts_fit}
+use Rattle.side_core.proofs.Ends.{IsWayOf, called, called_posts, writes_leave, write_told}
+use Rattle.side_core.proofs.Managers.{up_has}
 use Rattle.side_core.proofs.side.SideCore.write.Goals as goal
 
 pub invariant_of-self : goal.invariant_of-self

@@ -1,0 +1,51 @@
+-- The first connection of two peers: six entries of handshake, two bytes written, landed and read.
+-- A history written down by hand, entry by entry: each reply and each post is the one that the definitions give.
+use Rattle.smc_num.specs.declared.Side.TheVariants.{A, B}
+use Rattle.smc_num.specs.declared.LinkId.{LinkId}
+use Rattle.clc_wire.specs.declared.message.ClcMessage.TheVariants.{Proposal as ProposalMessage, Accept as AcceptMessage, Confirm as ConfirmMessage}
+use Rattle.llc_wire.specs.declared.LlcMessage.TheVariants.{ConfirmLink}
+use Rattle.pipe_model.specs.declared.post.PostRef.{PostRef}
+use Rattle.pipe_model.specs.declared.setup.Setup.{Setup}
+use Rattle.pipe_model.specs.declared.entry.Entry.{Entry}
+use Rattle.pipe_model.specs.declared.event.Event.TheVariants.{Open, Write as WriteEvent, Read, Clc as ClcEvent, Deliver}
+use Rattle.pipe_model.specs.declared.reply.Reply.TheVariants.{Opened, Wrote, Bytes, Sent as SentReply, Landed}
+use Rattle.pipe_model.specs.declared.reply.SentKind.TheVariants.{Accept as AcceptKind, Confirm as ConfirmKind, ConfirmLink as ConfirmLinkKind}
+use Rattle.pipe_model.specs.declared.post.Post.TheVariants.{Write as WritePost, Cdc, Llc, Clc as ClcPost}
+use Rattle.std.proofs.Common.{◌≡◌, ℕ, List, [], ◌∷◌, true, false, refl, Some, None, reverse, ◌++◌, replicate}
+use Rattle.pipe_model.proofs.Histories.Written.{link, at, peer, gid, mac, entry, given, written}
+
+-- the scene: open s | pump 9 | write A.s 68,69 | pump 2 | read B.s 9
+abbrev setup : Setup
+setup = record { capable = true ∷ true ∷ []; subnet = (167772160, 24) ∷ (167772160, 24) ∷ []; links = 2; size_code = 0; rmbs = 2 ∷ 2 ∷ []; elements = 4 ∷ 4 ∷ []; depth = 1; number = 1; sockets = 1 }
+
+-- the bytes of its writes
+abbrev payload : List ℕ
+payload = 104 ∷ 105 ∷ []
+
+-- what happened, the oldest entry first
+abbrev history : List Entry
+history =
+    -- 1 open s: opened
+    entry (Open 0) Opened (ClcPost A 0 None (ProposalMessage (record { peer = peer 10; gid = gid 10 1; mac = mac 10 1; subnet = 167772160; prefix = 24; v6 = 0 })) ∷ []) ∷
+    -- 2 clc s A: sent accept
+    entry (ClcEvent 0 A) (SentReply AcceptKind) (ClcPost B 0 (Some (link 1 1 1)) (AcceptMessage (record { first = true; peer = peer 11; gid = gid 11 1; mac = mac 11 1; qp = 17; key = 513; index = 1; token = 1; size = 0; mtu = 5; address = 4294967296; psn = 1 })) ∷ []) ∷
+    -- 3 clc s B: sent confirm
+    entry (ClcEvent 0 B) (SentReply ConfirmKind) (ClcPost A 0 (Some (link 1 1 1)) (ConfirmMessage (record { first = true; peer = peer 10; gid = gid 10 1; mac = mac 10 1; qp = 17; key = 257; index = 1; token = 1; size = 0; mtu = 5; address = 4294967296; psn = 1 })) ∷ []) ∷
+    -- 4 clc s A: sent confirm link
+    entry (ClcEvent 0 A) (SentReply ConfirmLinkKind) (Llc B (link 1 1 1) (ConfirmLink false (mac 11 1) (gid 11 1) 17 1 1 2) ∷ []) ∷
+    -- 5 deliver 1 B: landed 4.1
+    entry (Deliver 1 B) (Landed (at 4 1)) (Llc A (link 1 1 1) (ConfirmLink true (mac 10 1) (gid 10 1) 17 1 1 2) ∷ []) ∷
+    -- 6 deliver 1 A: landed 5.1
+    entry (Deliver 1 A) (Landed (at 5 1)) [] ∷
+    -- 7 write A.s 68,69: wrote 2
+    entry (WriteEvent (record { side = A; s = 0 }) 0 2) (Wrote 2) (WritePost A (link 1 1 1) 513 4294967296 2 ∷ Cdc A (link 1 1 1) (record { number = 1; token = 1; told = record { wrap = 0; count = 2 }; read = record { wrap = 0; count = 0 }; producer = 0; state = 0 }) ∷ []) ∷
+    -- 8 deliver 1 A: landed 7.1
+    entry (Deliver 1 A) (Landed (at 7 1)) [] ∷
+    -- 9 deliver 1 A: landed 7.2
+    entry (Deliver 1 A) (Landed (at 7 2)) [] ∷
+    -- 10 read B.s 9: data 68,69
+    entry (Read (record { side = B; s = 0 }) 9) (Bytes 0 2) (Cdc B (link 1 1 1) (record { number = 1; token = 1; told = record { wrap = 0; count = 0 }; read = record { wrap = 0; count = 2 }; producer = 0; state = 0 }) ∷ []) ∷
+    []
+
+are-given : given setup payload (reverse history) ≡ written (reverse history)
+are-given = refl
