@@ -21,5 +21,11 @@ pub use Rattle.lending_laws.proofs.Ends.Comes.{same-first}
 pub use Rattle.lending_laws.proofs.Ends.Comes.{lives-on}
 -- before each entry B is sound
 pub use Rattle.lending_laws.proofs.Ends.Live.{own-all}
+-- an end comes up while its side is in the group of the offer
+pub use Rattle.lending_laws.proofs.Ends.Live.{up-in-group}
+-- an end in any group, up or not, has the live links of its side just while the side is in the group
+pub use Rattle.lending_laws.proofs.Ends.Live.{has-live-in}
+-- an end that is up is in the group of its offer, which its side is in, or which has ended there
+pub use Rattle.lending_laws.proofs.Ends.Live.{up-in}
 -- `live`
 pub use Rattle.lending_laws.proofs.Ends.Live.{has-live}

@@ -11,6 +11,8 @@ mod Pairs
 mod Tokens
 -- so what x has learnt of a confirmed RMB of y on a near link is the key that y bound last, and x finds just that
 pub use Rattle.lending_laws.proofs.Keys.Agree.{agrees}
+-- the key of an RMB for a link, among keys of which none is twice; and a key that is bound is the one bound last
+pub use Rattle.lending_laws.proofs.Keys.Agree.{bound-is, last-is}
 -- a side without a group asks for no key
 pub use Rattle.lending_laws.proofs.Keys.Asked.{no-ask}
 -- an RMB is registered for several links of different slots: it has a key on each

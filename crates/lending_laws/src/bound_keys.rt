@@ -3,6 +3,7 @@ ghost use Rattle.history_laws.specs.Made.{IsMadeAll};
 ghost use Rattle.lending_laws.specs.BoundKeys.{AreFreed, OwedByLendings};
 ghost use Rattle.lending_laws.specs.KeyGroups.{AllOwedByGroups, AreOfGroup};
 ghost use Rattle.lending_laws.specs.OwedKeys.{AllReplies, HasKeys};
+ghost use Rattle.link_laws.specs.Covered.{AreCovered};
 ghost use Rattle.link_laws.specs.Learnt.{IsBook};
 ghost use Rattle.pipe_model.specs.Keys.{AreBound};
 ghost use Rattle.pipe_model.specs.declared.entry.Entry.{Entry};
@@ -25,6 +26,12 @@ pub fn free_numbers_are_done_with()
 /// the answers to key requests owe is paid.
 pub fn keys_are_known()
     ensures { (setup : Setup) (payload : List ℕ) (x : Side) (past : List Entry) → IsMadeAll setup payload past → AllReplies past → HasKeys x past }
+{}
+
+/// Each confirmed RMB has a key on each link on whose slot its side has keys: A on each that it
+/// knows, B on each that is live there, or whose keys it has told, or which it confirms.
+pub fn confirmed_rmbs_have_their_keys()
+    ensures { (setup : Setup) (payload : List ℕ) (past : List Entry) → IsMadeAll setup payload past → (x : Side) → AreCovered x past }
 {}
 
 /// A side's keys, and what it has learnt, are for links of its group, where what is registered and

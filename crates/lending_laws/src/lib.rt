@@ -10,7 +10,8 @@ mod lent_elements;
 mod offered_ends;
 
 pub use bound_keys::{
-    free_numbers_are_done_with, keys_are_bound, keys_are_known, keys_are_of_the_group,
+    confirmed_rmbs_have_their_keys, free_numbers_are_done_with, keys_are_bound, keys_are_known,
+    keys_are_of_the_group,
 };
 pub use lent_elements::{
     a_token_names_its_lending, lendings_are_done_with, no_bytes_come_after_a_lending,

@@ -51,7 +51,7 @@ module _ (setup : Setup) (payload : List ℕ) (e : Entry) (past : List Entry) (m
       by (inr i) = i.0
 
   -- no element is lent of an RMB whose keys are withdrawn
-  withdrawn-not-lent : (t : Takes x e past Withdraw) (rmb : ℕ) → has rmb (named_rmbs (deleted t.act.message) (keys_of x past).keys) ≡ true → (l : Lending) → l.place.rmb ≡ rmb → IsAmong l (lent setup payload x past) → ⊥
+  pub withdrawn-not-lent : (t : Takes x e past Withdraw) (rmb : ℕ) → has rmb (named_rmbs (deleted t.act.message) (keys_of x past).keys) ≡ true → (l : Lending) → l.place.rmb ≡ rmb → IsAmong l (lent setup payload x past) → ⊥
   withdrawn-not-lent t rmb named l r i =
       let f : HasAllFlows past = all-flows setup payload past m.1 in
       let idle = withdrawn-idle setup payload past m.0.0 e m.0.1 m.1 x (f.keys x) (all-deleting setup payload past m.1 x) t in

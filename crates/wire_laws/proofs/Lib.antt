@@ -1,3 +1,6 @@
 pub mod Agreement
+pub mod Causes
 pub mod FreedKeys
+pub mod Lawful
 pub mod Whole
+pub mod Writes

@@ -1,1 +1,4 @@
 pub mod Agreement
+pub mod Heard
+pub mod Late
+pub mod Writes

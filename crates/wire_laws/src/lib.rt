@@ -5,12 +5,25 @@
 //! RMBs and sockets and for all events.
 #![tactic(auto)]
 
+mod drops;
 mod histories;
+mod landings;
+mod resets;
+mod steps;
 mod wires;
 
+pub use drops::dropped_messages_come_late;
 pub use histories::{
     lendings_are_always_done_with, no_bytes_ever_come_after_a_lending,
     no_element_is_ever_lent_again_too_early, no_key_is_ever_bound_again_too_early,
     wires_and_pipes_always_agree,
+};
+pub use landings::{
+    each_write_that_lands_is_home, rmbs_of_lent_elements_are_confirmed,
+    writes_wait_before_their_messages, writes_wait_for_lent_elements, writes_wait_under_bound_keys,
+};
+pub use resets::{a_decline_names_a_lack_that_holds, resets_have_causes, resets_stay};
+pub use steps::{
+    a_lawful_history_is_made, a_made_entry_is_a_lawful_step, a_made_history_is_lawful,
 };
 pub use wires::{the_first_message_is_the_next_of_one_end, wires_and_pipes_agree};

@@ -43,7 +43,7 @@ module _ (setup : Setup) (payload : List ℕ) (past : List Entry) (m : IsMadeAll
   out-down x s o = by-bool (is_up x s past ≡ false) (is_up x s past) (λ u. absurd (true≢false (sym o ∙ ap is_out (state-up x s past u)))) (λ u. u)
 
   -- what the peer of a lending that has ended has under way carries no bytes
-  peer-quiet : (y : Side) (l : Lending) → IsAmong l (lendings y past) → HasReturned setup payload y l past → has_ended y l.group past ≡ false → EachOf CarriesNone (to_land (half (other y) (pipe_of setup payload (group_on l.s past) l.s past)))
+  pub peer-quiet : (y : Side) (l : Lending) → IsAmong l (lendings y past) → HasReturned setup payload y l past → has_ended y l.group past ≡ false → EachOf CarriesNone (to_land (half (other y) (pipe_of setup payload (group_on l.s past) l.s past)))
   peer-quiet y l i (WithGroup g) n = absurd (true≢false (sym g ∙ n))
   peer-quiet y l i (AsOver v) n =
       let now = owed-now setup payload past w in

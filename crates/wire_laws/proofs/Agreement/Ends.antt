@@ -62,7 +62,7 @@ module _ (setup : Setup) (payload : List ℕ) (e : Entry) (past : List Entry) (b
   Then x s = half x (pipe T (I s ++ P s))
 
   -- the draft of the entry gives the same items
-  draft-fabric : fabric (D ∷ past) ≡ fabric (e ∷ past)
+  pub draft-fabric : fabric (D ∷ past) ≡ fabric (e ∷ past)
   draft-fabric = sym (ap (λ ps. after e.event e.reply ps past (fabric past)) made.posts ∙ ap (λ r. after e.event r (D.posts ++ connection_posts setup payload D past) past (fabric past)) made.reply ∙
       unseen-after e.event D.reply D.posts (connection_posts setup payload D past) past (fabric past) (connections-data setup payload D past))
 
@@ -80,7 +80,7 @@ module _ (setup : Setup) (payload : List ℕ) (e : Entry) (past : List Entry) (b
   no-news-strange link x token f = of-pipes link x token ∙ nothing-strange link setup payload D past x token f
 
   -- other sockets have other tokens
-  tokens-else : (x : Side) (s : ℕ) (o : Offered) → offered x s past ≡ Some o → (t : ℕ) → (t == s) ≡ false → IsElse o.offer.token (offered x t past)
+  pub tokens-else : (x : Side) (s : ℕ) (o : Offered) → offered x s past ≡ Some o → (t : ℕ) → (t == s) ≡ false → IsElse o.offer.token (offered x t past)
   tokens-else x s o f t d = by (offered x t past) refl
     where
       by : (q : Option Offered) → offered x t past ≡ q → IsElse o.offer.token q
@@ -103,7 +103,7 @@ module _ (setup : Setup) (payload : List ℕ) (e : Entry) (past : List Entry) (b
       by None g = absurd (none-is o (sym (owed.answer s g) ∙ f))
       by (Some r) g = (r, g)
 
-  offered-now : (x : Side) (s : ℕ) (o : Offered) → offered x s past ≡ Some o → is_offered past s ≡ true
+  pub offered-now : (x : Side) (s : ℕ) (o : Offered) → offered x s past ≡ Some o → is_offered past s ≡ true
   offered-now x s o f = let r = b-offered x s o f in ap (λ q. not (group_by q == 0)) r.1 ∙ ap (λ b. not b) (owed.grouped s r.0 r.1)
 
   -- what it posts of an end on a link is what the end sends there

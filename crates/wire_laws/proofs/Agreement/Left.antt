@@ -190,3 +190,34 @@ module _ (setup : Setup) (payload : List ℕ) (e : Entry) (past : List Entry) (b
       by : (c : Option LinkId) → comes_up x s e past ≡ c → IsLiveOrLost x K.link (e ∷ past)
       by (Some l) f = rises l f (from-mid (shape payload s e.actor e.posts e.reply past e.event))
       by None f = was-up (pipe-is-up T x payload (group_on s past) s past ∙ (ap (λ c. is_some c || is_up x s past) (sym f) ∙ v)) (shape payload s e.actor e.posts e.reply past e.event)
+
+  -- on which link an end is that is up: on the one that it was on; on its lowest live one, as it moves; or on the one on which it comes up
+  abbrev LinkTurn : Type 0
+  LinkTurn = ((H.up ≡ true) × (K.link ≡ H.link)) ⊎ (((H.up ≡ true) × ((H.stands ≡ true) × (K.link ≡ lowest_link H))) ⊎ ((l : LinkId) × ((comes_up x s e past ≡ Some l) × (K.link ≡ l))))
+
+  turned-up : H.up ≡ true → Shape s e past Ds → LinkTurn
+  turned-up u (NoDeed d) = inl (u, (let p = none-sends setup payload e past before made owed beside x s d in p.same u))
+  turned-up u (Deed item d is) = inl (u, (let p = one-sends setup payload e past before made owed beside x s item d (deed-stays x item M is) in p.same u))
+  turned-up u (MoveDeed y d none) = by-bool _ (same_side x y)
+      (λ c. by-bool _ (is_due_for_move M)
+      (λ due. moved (d ∙ ap (λ z. Calls z Moves ∷ []) (sym (same-is x y c))) (none (group_on s past)) due)
+      (λ due. inl (u, (let p = one-sends setup payload e past before made owed beside x s (Calls y Moves) d (λ q. due) in p.same u))))
+      (λ c. inl (u, (let p = one-sends setup payload e past before made owed beside x s (Calls y Moves) d (λ q. absurd (true≢false (sym q ∙ c))) in p.same u)))
+    where
+      moved : Ds ≡ Calls x Moves ∷ [] → Bs ≡ [] → is_due_for_move M ≡ true → LinkTurn
+      moved d none due =
+          let mid : M ≡ H = ap (λ is. half x (pipe T (is ++ P))) none in
+          let g = due-of H (ap (λ h. is_due_for_move h) (sym mid) ∙ due) in
+          let q : MovesOff M (half x (step T (Calls x Moves) (pipe T (Bs ++ P)))) = moves-step T x (pipe T (Bs ++ P)) due in
+          inr (inl (g.0, (g.1.0, ap (λ (k : Half). k.link) (then-one setup payload e past before made owed beside x s (Calls x Moves) d) ∙ (q.link_is ∙ ap (λ h. lowest_link h) mid))))
+
+  risen : (l : LinkId) → comes_up x s e past ≡ Some l → (Sends M K) ⊎ (Bs ≡ []) → LinkTurn
+  risen l f (inl p) = let u = stays-up-on M K l p (mid-on l f) in inr (inr (l, (f, u.0)))
+  risen l f (inr none) = absurd (none-is l (sym (ap (λ is. upped x is) none) ∙ (upped-below x (group_on s past) s e past ∙ f)))
+
+  pub link-turn : is_up x s (e ∷ past) ≡ true → LinkTurn
+  link-turn v = by (comes_up x s e past) refl
+    where
+      by : (c : Option LinkId) → comes_up x s e past ≡ c → LinkTurn
+      by (Some l) f = risen l f (from-mid (shape payload s e.actor e.posts e.reply past e.event))
+      by None f = turned-up (pipe-is-up T x payload (group_on s past) s past ∙ (ap (λ c. is_some c || is_up x s past) (sym f) ∙ v)) (shape payload s e.actor e.posts e.reply past e.event)

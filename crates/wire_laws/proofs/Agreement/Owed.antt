@@ -49,7 +49,7 @@ module _ (setup : Setup) (payload : List ℕ) where
     pub on : AllOn setup payload past
     pub agree : Agrees setup payload past
 
-  holds : (past : List Entry) → IsMadeAll setup payload past → AllPlain setup payload past → Holds past
+  pub holds : (past : List Entry) → IsMadeAll setup payload past → AllPlain setup payload past → Holds past
   holds [] m a = record {
     all = owed-of [] a.0 a.1 (λ x s u. absurd (true≢false (sym u)));
     on = λ x s u. absurd (true≢false (sym u));

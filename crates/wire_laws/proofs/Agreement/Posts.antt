@@ -110,7 +110,7 @@ on-cons link m ms = by (same_link link m.link)
     by true = refl
     by false = refl
 
-all-own : (link : LinkId) (x : Side) (size : ℕ) (o : Offered) (past : List Entry) (ms : List Sent) → flat_map (λ m. filter_map (under link x o.offer.token) (sent_posts size x (Some o) past m)) ms ≡ map (message size o.offer.token) (on_it link ms)
+pub all-own : (link : LinkId) (x : Side) (size : ℕ) (o : Offered) (past : List Entry) (ms : List Sent) → flat_map (λ m. filter_map (under link x o.offer.token) (sent_posts size x (Some o) past m)) ms ≡ map (message size o.offer.token) (on_it link ms)
 all-own link x size o past [] = refl
 all-own link x size o past (m ∷ ms) =
     ap (λ ns. ns ++ flat_map (λ n. filter_map (under link x o.offer.token) (sent_posts size x (Some o) past n)) ms) (sent-own link x size o past m) ∙
@@ -119,7 +119,7 @@ all-own link x size o past (m ∷ ms) =
     ap (λ ns. map (message size o.offer.token) ns) (sym (on-cons link m ms))
 
 module _ (link : LinkId) (setup : Setup) (payload : List ℕ) (e : Entry) (past : List Entry) where
-  end-other : (x : Side) (token s : ℕ) → filter_map (under link x token) (end_posts setup payload (other x) s e past) ≡ []
+  pub end-other : (x : Side) (token s : ℕ) → filter_map (under link x token) (end_posts setup payload (other x) s e past) ≡ []
   end-other x token s =
       filter_map-flat (under link x token) (sent_posts (element_size setup) (other x) (offered (other (other x)) s past) (e ∷ past)) (given setup payload e past (other x) s) ∙
       flat-none _ (given setup payload e past (other x) s) (sent-other link x token (element_size setup) (offered (other (other x)) s past) (e ∷ past))
@@ -129,13 +129,13 @@ module _ (link : LinkId) (setup : Setup) (payload : List ℕ) (e : Entry) (past 
       filter_map-flat (under link x token) (sent_posts (element_size setup) x (offered (other x) s past) (e ∷ past)) (given setup payload e past x s) ∙
       flat-none _ (given setup payload e past x s) (λ m. sent-else link x token (element_size setup) (offered (other x) s past) (e ∷ past) m n)
 
-  end-own : (x : Side) (s : ℕ) (o : Offered) → offered (other x) s past ≡ Some o → filter_map (under link x o.offer.token) (end_posts setup payload x s e past) ≡ map (message (element_size setup) o.offer.token) (on_it link (given setup payload e past x s))
+  pub end-own : (x : Side) (s : ℕ) (o : Offered) → offered (other x) s past ≡ Some o → filter_map (under link x o.offer.token) (end_posts setup payload x s e past) ≡ map (message (element_size setup) o.offer.token) (on_it link (given setup payload e past x s))
   end-own x s o f =
       ap (λ q. filter_map (under link x o.offer.token) (flat_map (sent_posts (element_size setup) x q (e ∷ past)) (given setup payload e past x s))) f ∙
       filter_map-flat (under link x o.offer.token) (sent_posts (element_size setup) x (Some o) (e ∷ past)) (given setup payload e past x s) ∙
       all-own link x (element_size setup) o (e ∷ past) (given setup payload e past x s)
 
-  pipe-of-end : (x : Side) (token s : ℕ) → filter_map (under link x token) (pipe_posts setup payload s e past) ≡ filter_map (under link x token) (end_posts setup payload x s e past)
+  pub pipe-of-end : (x : Side) (token s : ℕ) → filter_map (under link x token) (pipe_posts setup payload s e past) ≡ filter_map (under link x token) (end_posts setup payload x s e past)
   pipe-of-end A token s =
       filter_map-append (under link A token) (end_posts setup payload A s e past) (end_posts setup payload B s e past) ∙
       ap (λ ms. filter_map (under link A token) (end_posts setup payload A s e past) ++ ms) (end-other A token s) ∙ append-nil (filter_map (under link A token) (end_posts setup payload A s e past))

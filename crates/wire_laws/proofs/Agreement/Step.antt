@@ -15,7 +15,7 @@ use Rattle.wire_laws.specs.Agreement.{IsCarriedOn}
 abbrev pub on_it : LinkId → List Sent → List Sent
 on_it link ms = filter (λ m. same_link link m.link) ms
 
-all-on : (link l : LinkId) (ms : List Sent) → same_link link l ≡ true → EachOf (λ m. m.link ≡ l) ms → on_it link ms ≡ ms
+pub all-on : (link l : LinkId) (ms : List Sent) → same_link link l ≡ true → EachOf (λ m. m.link ≡ l) ms → on_it link ms ≡ ms
 all-on link l [] e p = refl
 all-on link l (m ∷ ms) e p = ap (λ b. cond b (m ∷ on_it link ms) (on_it link ms)) (ap (λ k. same_link link k) p.0 ∙ e) ∙ ap (λ ns. m ∷ ns) (all-on link l ms e p.1)
 
