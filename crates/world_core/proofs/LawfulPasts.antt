@@ -1,8 +1,12 @@
 -- A played history is lawful, whatever bytes it handed out as its answers ask.
 use Rattle.std.proofs.Common.{◌≡◌, ◌∙◌, ℕ, ◌+◌, Bool, true, false, if◌then◌else◌, List, [], ◌∷◌, ◌++◌, length, refl, ap, sym, subst, arith, length-append}
+use Rattle.smc_num.specs.declared.Side.{Side}
 use Rattle.smc_num.specs.declared.Side.TheVariants.{A, B}
 use Rattle.pipe_model.specs.declared.setup.Setup.{Setup}
 use Rattle.pipe_model.specs.declared.entry.Entry.{Entry}
+use Rattle.pipe_model.specs.Home.{LandsHome}
+use Rattle.pipe_model.specs.Keys.{AreBound}
+use Rattle.pipe_model.specs.Lending.{RelendsOnlyDone}
 use Rattle.pipe_model.specs.Calls.{Told, Plain, Hands}
 use Rattle.pipe_model.specs.Replies.{told}
 use Rattle.pipe_model.specs.Lawful.{reply_of, posted, claims_bytes, is_near_on, Given, IsStep, IsLawfulPast}
@@ -17,9 +21,10 @@ use Rattle.pipe_model.specs.Causes.{IsLacking, DeclinesForLack}
 use Rattle.pipe_model.proofs.Lawful.{told-named}
 use Rattle.world_core.proofs.Handshaken.{shaken}
 use Rattle.world_core.proofs.Pipes.{has-pipe}
-use Rattle.world_core.proofs.HomeLandings.{lands-home}
-use Rattle.world_core.proofs.Relending.{are-relent}
-use Rattle.world_core.proofs.BoundKeys.{are-bound}
+use Rattle.wire_laws.proofs.FreedKeys.{bound-holds}
+use Rattle.wire_laws.proofs.Whole.{lent-holds}
+use Rattle.wire_laws.proofs.Writes.{lands-home}
+use Rattle.world_core.proofs.Made.{has-elements, made-all, on-known}
 use Rattle.world_core.proofs.NoResets.{causes-shown}
 
 -- as many bytes were handed out as the history counts
@@ -45,6 +50,18 @@ pub declined-lacks : (setup : Setup) (payload : List ℕ) (e : Entry) (past : Li
 declined-lacks setup payload e past n p lack f = subst (λ r. DeclinesForLack setup payload e.event r past) f (lacking-in setup payload e past n p)
 
 module _ (setup : Setup) (one : IsOneLink setup) (payload : List ℕ) where
+  -- each write that lands is home
+  pub home : (e : Entry) (past : List Entry) (n : ℕ) → IsPlayed setup payload (e ∷ past) n → LandsHome setup payload e.event e.reply past
+  home e past n p = lands-home setup payload e past (made-all setup payload (e ∷ past) n p) (on-known setup payload past p.0 p.3)
+
+  -- no element is lent again too early
+  pub relent : (e : Entry) (past : List Entry) (n : ℕ) → IsPlayed setup payload (e ∷ past) n → (x : Side) → RelendsOnlyDone x e past
+  relent e past n p x = lent-holds setup payload e past x (has-elements setup one) (made-all setup payload (e ∷ past) n p) (on-known setup payload past p.0 p.3)
+
+  -- no key is bound again too early
+  pub bound : (e : Entry) (past : List Entry) (n : ℕ) → IsPlayed setup payload (e ∷ past) n → (x : Side) → AreBound x e past
+  bound e past n p x = bound-holds setup payload x e past (made-all setup payload (e ∷ past) n p) (on-known setup payload past p.0 p.3)
+
   pub lawful-step : (e : Entry) (past : List Entry) (n : ℕ) (p : IsPlayed setup payload (e ∷ past) n) (before heard : List ℕ) → length before ≡ p.0 → AddsBytes setup payload past e.event before heard → IsStep setup payload past before e heard
   lawful-step e past n p before heard long a = let made = p.1 in record {
     reply = made.reply ∙ ap (λ k. reply_of k (told setup payload past e.event)) (sym long);
@@ -52,11 +69,11 @@ module _ (setup : Setup) (one : IsOneLink setup) (payload : List ℕ) where
     given = a.given;
     heard_is = a.heard_is;
     given_is = a.given_is;
-    home = lands-home setup one payload e past n p;
-    lent_a = are-relent setup one payload e past n p A;
-    lent_b = are-relent setup one payload e past n p B;
-    bound_a = are-bound setup one payload e past n p A;
-    bound_b = are-bound setup one payload e past n p B;
+    home = home e past n p;
+    lent_a = relent e past n p A;
+    lent_b = relent e past n p B;
+    bound_a = bound e past n p A;
+    bound_b = bound e past n p B;
     lacking = lacking-in setup payload e past n p;
     shown = causes-shown setup one payload (e ∷ past) n p;
   }

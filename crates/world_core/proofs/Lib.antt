@@ -54,7 +54,6 @@ pub mod Handshaken
 pub mod Handshakes
 pub mod Heads
 pub mod Halves
-pub mod HomeLandings
 pub mod HostsAfter
 pub mod HostsOn
 pub mod HostsSwapped
@@ -85,6 +84,7 @@ pub mod LinkManagers
 pub mod LinkMoves
 pub mod LinkRoom
 pub mod LinkTold
+pub mod Made
 pub mod MayTakes
 pub mod MessageEnds
 pub mod Moved
@@ -128,7 +128,6 @@ pub mod ReadTold
 pub mod ReadsAfter
 pub mod ReadyManagers
 pub mod Records
-pub mod Relending
 pub mod RisenEnds
 pub mod RisenPosts
 pub mod Rising

@@ -19,9 +19,9 @@ mod laws;
 mod link;
 mod lists;
 mod moment;
+mod one_link_laws;
 mod settings;
 mod stream_laws;
-mod wire_laws;
 mod wires;
 mod world;
 mod world_laws;
@@ -42,6 +42,13 @@ pub use laws::{
     no_message_waits_for_an_end_that_is_up, nothing_is_cut, offers_are_on_the_one_link,
     the_link_and_the_sockets_are_somewhere, the_link_is_not_dead, tokens_tell_sockets_apart,
 };
+pub use one_link_laws::{
+    an_entry_gives_deeds_and_fates, no_end_closes, no_lending_was_ever_over, no_message_is_dropped,
+    offers_differ_in_their_tokens, own_messages_are_those_under_the_token,
+    posts_on_a_wire_stand_in_the_history, the_link_fits_the_elements, the_link_has_room,
+    the_pipes_post_one_batch_at_most, the_pipes_post_what_is_due,
+    what_completes_is_next_to_complete, what_lands_is_next_to_land, wires_and_pipes_agree,
+};
 pub use pipe_model::StepFault;
 pub use settings::{BadField, Field};
 pub use stream_laws::{
@@ -49,13 +56,6 @@ pub use stream_laws::{
     only_the_handshake_posts_clc, own_streams_stand_with_the_posts,
     the_peers_streams_give_what_is_taken, untaken_messages_are_as_long_as_told,
     untaken_messages_can_be_written,
-};
-pub use wire_laws::{
-    an_entry_gives_deeds_and_fates, no_end_closes, no_lending_was_ever_over, no_message_is_dropped,
-    offers_differ_in_their_tokens, own_messages_are_those_under_the_token,
-    posts_on_a_wire_stand_in_the_history, the_link_fits_the_elements, the_link_has_room,
-    the_pipes_post_one_batch_at_most, the_pipes_post_what_is_due,
-    what_completes_is_next_to_complete, what_lands_is_next_to_land, wires_and_pipes_agree,
 };
 pub use world::{NewFault, World};
 pub use world_laws::{

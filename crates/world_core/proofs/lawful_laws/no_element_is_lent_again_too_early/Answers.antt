@@ -1,5 +1,5 @@
-use Rattle.world_core.proofs.Relending.{are-relent}
+use Rattle.world_core.proofs.LawfulPasts.{relent}
 use Rattle.world_core.proofs.lawful_laws.no_element_is_lent_again_too_early.Goals as goal
 
 pub returns : goal.returns
-returns c = λ setup one payload e past n p x. are-relent setup one payload e past n p x
+returns c = λ setup one payload e past n p x. relent setup one payload e past n p x

@@ -1,5 +1,5 @@
 use Rattle.world_core.proofs.Handshaken.{one-batch}
-use Rattle.world_core.proofs.wire_laws.the_pipes_post_one_batch_at_most.Goals as goal
+use Rattle.world_core.proofs.one_link_laws.the_pipes_post_one_batch_at_most.Goals as goal
 
 pub returns : goal.returns
 returns c = one-batch

@@ -1,5 +1,5 @@
 use Rattle.world_core.proofs.Handshaken.{has-offers}
-use Rattle.world_core.proofs.wire_laws.offers_differ_in_their_tokens.Goals as goal
+use Rattle.world_core.proofs.one_link_laws.offers_differ_in_their_tokens.Goals as goal
 
 pub returns : goal.returns
 returns c = has-offers

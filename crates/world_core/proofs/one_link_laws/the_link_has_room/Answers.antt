@@ -1,5 +1,5 @@
 use Rattle.world_core.proofs.LinkRoom.{has-room}
-use Rattle.world_core.proofs.wire_laws.the_link_has_room.Goals as goal
+use Rattle.world_core.proofs.one_link_laws.the_link_has_room.Goals as goal
 
 pub returns : goal.returns
 returns c = has-room
