@@ -3,7 +3,9 @@ pub mod Numbers
 pub mod Subnets
 pub mod Names
 pub mod Runs
+pub mod RunsOfBytes
 pub mod Mentions
 pub mod Ranges
 pub mod Reading
 pub mod Sound
+pub mod ReadBack

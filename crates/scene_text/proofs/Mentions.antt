@@ -1,12 +1,12 @@
 -- A name is among those that were mentioned, or goes behind them.
-use Rattle.std.proofs.Common.{◌≡◌, ℕ, ◌+◌, ◌≤◌, Bool, true, false, List, [], ◌∷◌, ◌++◌, length, map, Option, Some, None, position, String, string_bytes, cond, is_some, refl, ap, sym, arith, true≢false, suc}
+use Rattle.std.proofs.Common.{◌≡◌, ℕ, ◌+◌, ◌<◌, ◌≤◌, Bool, true, false, List, [], ◌∷◌, ◌++◌, length, map, Option, Some, None, position, String, string_bytes, cond, is_some, refl, ap, sym, arith, true≢false, suc}
 use Rattle.std.specs.List.{position_or_len}
-use Rattle.std.specs.Prelude.{not}
+use Rattle.std.specs.Prelude.{not, nat_lt}
 use Rattle.std.specs.Str.{bytes_eq}
 use Rattle.std.specs.Map.{keys_of}
-use Rattle.std.proofs.lemmas.Bool.{cond-true, cond-false, ltb-false}
+use Rattle.std.proofs.lemmas.Bool.{cond-true, cond-false, ltb-true, ltb-false}
 use Rattle.std.proofs.lemmas.Option.{cond_some}
-use Rattle.std.proofs.lemmas.List.{length-map}
+use Rattle.std.proofs.lemmas.List.{length-map, length-append}
 use Rattle.scene_text.specs.Scenes.{socket_of, mentioned}
 use Rattle.scene_text.proofs.Cutting.{cond_none}
 
@@ -55,3 +55,12 @@ module _ (names : List (List ℕ)) (name : List ℕ) where
       let within = place_within (bytes_eq name) names in
       let beyond : length names ≤ socket_of names name = ltb-false _ _ past in
       (omega arith, sym (cond-false _ names (names ++ name ∷ []) past))
+
+below : (s : ℕ) (names more : List (List ℕ)) → s ≤ length names → length more ≡ length names + 1 → (b : Bool) → (b ≡ true → s < length names) → s < length (cond b names more)
+below s names more h e true k = k refl
+below s names more h e false k = omega arith
+
+-- the number of a name is one of those that are given once it is mentioned
+pub socket_below : (names : List (List ℕ)) (name : List ℕ) → socket_of names name < length (mentioned names name)
+socket_below names name =
+    below (socket_of names name) names (names ++ name ∷ []) (socket_within names name) (length-append names (name ∷ [])) (nat_lt (socket_of names name) (length names)) (ltb-true _ _)

@@ -1,5 +1,5 @@
 -- A setting that is set stays in its range, and nothing else changes.
-use Rattle.std.proofs.Common.{◌≡◌, ℕ, ◌-◌, ◌^◌, ◌%◌, ◌≤◌, Bool, true, false, List, [], ◌∷◌, Result, Ok, Err, cond, refl, ap, sym, subst, arith}
+use Rattle.std.proofs.Common.{◌≡◌, ℕ, ◌+◌, ◌*◌, ◌-◌, ◌^◌, ◌%◌, ◌<◌, ◌≤◌, Bool, true, false, List, [], ◌∷◌, Result, Ok, Err, cond, refl, ap, sym, subst, arith}
 use Rattle.std.specs.Prelude.{not, nat_le, ◌==◌, ◌&&◌, slice_index_or}
 use Rattle.std.proofs.lemmas.Bool.{eqb-true, leb-true, and_parts}
 use Rattle.smc_num.specs.declared.Side.{Side}
@@ -18,15 +18,15 @@ use Rattle.scene_text.specs.declared.settings.SharedSetting.{SharedSetting}
 use Rattle.scene_text.specs.declared.settings.SharedSetting.TheVariants as shared
 use Rattle.scene_text.specs.declared.settings.SettingName.{SettingName}
 use Rattle.scene_text.specs.declared.settings.SettingName.TheVariants.{OfSide, OfBoth}
-use Rattle.scene_text.specs.Words.{◌>>=◌, number_of, number_in, side_in, answer_of, as_subnet, address_of, has_host_bits, subnet_with, subnet_in, subnet_of, parts, slash}
-use Rattle.scene_text.specs.Scenes.{PlainScene, IsSubnet, IsInRange}
+use Rattle.scene_text.specs.Words.{◌>>=◌, number_of, number_in, side_in, answer_of, as_subnet, address_with, address_in, address_of, has_host_bits, subnet_with, subnet_in, subnet_of, parts, point, slash}
+use Rattle.scene_text.specs.Scenes.{PlainScene, IsSubnet, subnet_at, IsInRange}
 use Rattle.scene_text.specs.Settings.{setting_named, side_place, shared_place, pair_with, with_setup, with_room, side_value, shared_value, PlainDraft, or_bad, with_scene, before_lines, named_once, set_row, set_said}
 
 pub bind_ok : {E X Y : Type 0} (r : Result X E) (f : X → Result Y E) (y : Y) → (r >>= f) ≡ Ok y → (x : X) × (r ≡ Ok x) × (f x ≡ Ok y)
 bind_ok (Ok x) f y e = (x, refl, e)
 bind_ok (Err d) f y e = cc
 
-chosen : {E X : Type 0} (b : Bool) (x y : X) (e : E) → cond b (Ok x) (Err e) ≡ Ok y → (b ≡ true) × (x ≡ y)
+pub chosen : {E X : Type 0} (b : Bool) (x y : X) (e : E) → cond b (Ok x) (Err e) ≡ Ok y → (b ≡ true) × (x ≡ y)
 chosen true x y e h = (refl, cc)
 chosen false x y e h = cc
 
@@ -64,6 +64,47 @@ subnet_in_ok (address ∷ prefix ∷ other ∷ more) net e = cc
 subnet_ok : (word : List ℕ) (net : ℕ × ℕ) → subnet_of word ≡ Ok net → IsSubnet net
 subnet_ok word net e = subnet_in_ok (parts slash word) net e
 
+module _ (most : ℕ) where
+  part_low : (word : List ℕ) (n : ℕ) → as_subnet (number_in 0 most word) ≡ Ok n → n ≤ most
+  part_low word n e = (number_in_range 0 most word n (as_subnet_ok _ _ e)).1
+
+address_with_low : (a b c d : List ℕ) (n : ℕ) → address_with a b c d ≡ Ok n → n < 4294967296
+address_with_low a b c d n e =
+    let first = bind_ok (as_subnet (number_in 0 255 a)) (λ a. as_subnet (number_in 0 255 b) >>= λ b. as_subnet (number_in 0 255 c) >>= λ c. as_subnet (number_in 0 255 d) >>= λ d. Ok (((a * 256 + b) * 256 + c) * 256 + d)) n e in
+    let second = bind_ok (as_subnet (number_in 0 255 b)) (λ b. as_subnet (number_in 0 255 c) >>= λ c. as_subnet (number_in 0 255 d) >>= λ d. Ok (((first.0 * 256 + b) * 256 + c) * 256 + d)) n first.2 in
+    let third = bind_ok (as_subnet (number_in 0 255 c)) (λ c. as_subnet (number_in 0 255 d) >>= λ d. Ok (((first.0 * 256 + second.0) * 256 + c) * 256 + d)) n second.2 in
+    let fourth = bind_ok (as_subnet (number_in 0 255 d)) (λ d. let made : Result ℕ LineKind = Ok (((first.0 * 256 + second.0) * 256 + third.0) * 256 + d) in made) n third.2 in
+    let w = part_low 255 a first.0 first.1 in
+    let x = part_low 255 b second.0 second.1 in
+    let y = part_low 255 c third.0 third.1 in
+    let z = part_low 255 d fourth.0 fourth.1 in
+    let whole : ((first.0 * 256 + second.0) * 256 + third.0) * 256 + fourth.0 ≡ n = cc in
+    omega arith
+
+address_in_low : (found : List (List ℕ)) (n : ℕ) → address_in found ≡ Ok n → n < 4294967296
+address_in_low [] n e = cc
+address_in_low (a ∷ []) n e = cc
+address_in_low (a ∷ b ∷ []) n e = cc
+address_in_low (a ∷ b ∷ c ∷ []) n e = cc
+address_in_low (a ∷ b ∷ c ∷ d ∷ []) n e = address_with_low a b c d n e
+address_in_low (a ∷ b ∷ c ∷ d ∷ other ∷ more) n e = cc
+
+subnet_with_low : (address prefix : List ℕ) (net : ℕ × ℕ) → subnet_with address prefix ≡ Ok net → net.0 < 4294967296
+subnet_with_low address prefix net e =
+    let first = bind_ok (address_of address) (λ n. as_subnet (number_in 0 MOST_PREFIX_BITS prefix) >>= λ p. cond (has_host_bits n p) (Err kinds.Subnet) (Ok (n, p))) net e in
+    let second = bind_ok (as_subnet (number_in 0 MOST_PREFIX_BITS prefix)) (λ p. cond (has_host_bits first.0 p) (Err kinds.Subnet) (Ok (first.0, p))) net first.2 in
+    let whole = not_refused (first.0 % 2 ^ (MOST_PREFIX_BITS - second.0) == 0) (first.0, second.0) net kinds.Subnet second.2 in
+    subst (λ (net : ℕ × ℕ). net.0 < 4294967296) whole.1 (address_in_low (parts point address) first.0 first.1)
+
+subnet_in_low : (found : List (List ℕ)) (net : ℕ × ℕ) → subnet_in found ≡ Ok net → net.0 < 4294967296
+subnet_in_low [] net e = cc
+subnet_in_low (address ∷ []) net e = cc
+subnet_in_low (address ∷ prefix ∷ []) net e = subnet_with_low address prefix net e
+subnet_in_low (address ∷ prefix ∷ other ∷ more) net e = cc
+
+subnet_low : (word : List ℕ) (net : ℕ × ℕ) → subnet_of word ≡ Ok net → net.0 < 4294967296
+subnet_low word net e = subnet_in_low (parts slash word) net e
+
 -- what is true of each side's value stays so where another such value is set
 module _ {X : Type 0} (P : X → Type 0) (default value : X) (pair : List X) (good : P value) (each : (x : Side) → P (at_side x (slice_index_or pair 0 default) (slice_index_or pair 1 default))) where
   pair_keeps : (at x : Side) → P (at_side x (slice_index_or (pair_with default at value pair) 0 default) (slice_index_or (pair_with default at value pair) 1 default))
@@ -72,52 +113,71 @@ module _ {X : Type 0} (P : X → Type 0) (default value : X) (pair : List X) (go
   pair_keeps B A = each A
   pair_keeps B B = good
 
+module _ {X : Type 0} (default : X) where
+  -- a list of two values, A's and B's
+  abbrev pub IsPair : List X → Type 0
+  IsPair pair = pair ≡ slice_index_or pair 0 default ∷ slice_index_or pair 1 default ∷ []
+
+  pair_with_is : (at : Side) (value : X) (pair : List X) → IsPair (pair_with default at value pair)
+  pair_with_is A value pair = refl
+  pair_with_is B value pair = refl
+
+-- what of a setup is not said by the range of a setting: the pairs have two values, an address has 32 bits, and there is one slot
+pub record IsFormed (setup : Setup) : Type 0 where
+  pub capable : IsPair false setup.capable
+  pub subnet : IsPair (0, 0) setup.subnet
+  pub rmbs : IsPair 0 setup.rmbs
+  pub elements : IsPair 0 setup.elements
+  pub addresses : (x : Side) → (subnet_at setup x).0 < 4294967296
+  pub links : setup.links ≡ 1
+
 -- a scene with other settings, which are in their ranges as those before were
 pub record Changes (scene after : PlainScene) : Type 0 where
   pub setup : Setup
   pub room : Room
   pub same : record scene { setup = setup; room = room } ≡ after
   pub ranged : IsInRange scene.setup scene.room → IsInRange setup room
+  pub formed : IsFormed scene.setup → IsFormed setup
 
 side_changes : (setting : SideSetting) (at : Side) (word : List ℕ) (scene after : PlainScene) → side_value setting at word scene ≡ Ok after → Changes scene after
 side_changes sides.Capable at word scene after e =
     let read = bind_ok (answer_of word) (λ yes. Ok (with_setup (record scene.setup { capable = pair_with false at yes scene.setup.capable }) scene)) after e in
     let same : with_setup (record scene.setup { capable = pair_with false at read.0 scene.setup.capable }) scene ≡ after = cc in
-    record { setup = record scene.setup { capable = pair_with false at read.0 scene.setup.capable }; room = scene.room; same = same; ranged = λ h. record { subnet = h.subnet; links = h.links; size = h.size; rmbs = h.rmbs; elements = h.elements; depth = h.depth; number = h.number; sockets = h.sockets; entries = h.entries; bytes = h.bytes } }
+    record { setup = record scene.setup { capable = pair_with false at read.0 scene.setup.capable }; room = scene.room; same = same; ranged = λ h. record { subnet = h.subnet; links = h.links; size = h.size; rmbs = h.rmbs; elements = h.elements; depth = h.depth; number = h.number; sockets = h.sockets; entries = h.entries; bytes = h.bytes }; formed = λ h. record { capable = pair_with_is false at read.0 scene.setup.capable; subnet = h.subnet; rmbs = h.rmbs; elements = h.elements; addresses = h.addresses; links = h.links } }
 side_changes sides.Subnet at word scene after e =
     let read = bind_ok (subnet_of word) (λ net. Ok (with_setup (record scene.setup { subnet = pair_with (0, 0) at net scene.setup.subnet }) scene)) after e in
     let same : with_setup (record scene.setup { subnet = pair_with (0, 0) at read.0 scene.setup.subnet }) scene ≡ after = cc in
-    record { setup = record scene.setup { subnet = pair_with (0, 0) at read.0 scene.setup.subnet }; room = scene.room; same = same; ranged = λ h. record { subnet = pair_keeps IsSubnet (0, 0) read.0 scene.setup.subnet (subnet_ok word read.0 read.1) h.subnet at; links = h.links; size = h.size; rmbs = h.rmbs; elements = h.elements; depth = h.depth; number = h.number; sockets = h.sockets; entries = h.entries; bytes = h.bytes } }
+    record { setup = record scene.setup { subnet = pair_with (0, 0) at read.0 scene.setup.subnet }; room = scene.room; same = same; ranged = λ h. record { subnet = pair_keeps IsSubnet (0, 0) read.0 scene.setup.subnet (subnet_ok word read.0 read.1) h.subnet at; links = h.links; size = h.size; rmbs = h.rmbs; elements = h.elements; depth = h.depth; number = h.number; sockets = h.sockets; entries = h.entries; bytes = h.bytes }; formed = λ h. record { capable = h.capable; subnet = pair_with_is (0, 0) at read.0 scene.setup.subnet; rmbs = h.rmbs; elements = h.elements; addresses = pair_keeps (λ (net : ℕ × ℕ). net.0 < 4294967296) (0, 0) read.0 scene.setup.subnet (subnet_low word read.0 read.1) h.addresses at; links = h.links } }
 side_changes sides.Rmbs at word scene after e =
     let read = bind_ok (number_in 1 MOST_RMBS word) (λ n. Ok (with_setup (record scene.setup { rmbs = pair_with 0 at n scene.setup.rmbs }) scene)) after e in
     let same : with_setup (record scene.setup { rmbs = pair_with 0 at read.0 scene.setup.rmbs }) scene ≡ after = cc in
-    record { setup = record scene.setup { rmbs = pair_with 0 at read.0 scene.setup.rmbs }; room = scene.room; same = same; ranged = λ h. record { subnet = h.subnet; links = h.links; size = h.size; rmbs = pair_keeps (λ n. (1 ≤ n) × (n ≤ MOST_RMBS)) 0 read.0 scene.setup.rmbs (number_in_range 1 MOST_RMBS word read.0 read.1) h.rmbs at; elements = h.elements; depth = h.depth; number = h.number; sockets = h.sockets; entries = h.entries; bytes = h.bytes } }
+    record { setup = record scene.setup { rmbs = pair_with 0 at read.0 scene.setup.rmbs }; room = scene.room; same = same; ranged = λ h. record { subnet = h.subnet; links = h.links; size = h.size; rmbs = pair_keeps (λ n. (1 ≤ n) × (n ≤ MOST_RMBS)) 0 read.0 scene.setup.rmbs (number_in_range 1 MOST_RMBS word read.0 read.1) h.rmbs at; elements = h.elements; depth = h.depth; number = h.number; sockets = h.sockets; entries = h.entries; bytes = h.bytes }; formed = λ h. record { capable = h.capable; subnet = h.subnet; rmbs = pair_with_is 0 at read.0 scene.setup.rmbs; elements = h.elements; addresses = h.addresses; links = h.links } }
 side_changes sides.Elements at word scene after e =
     let read = bind_ok (number_in 1 MOST_ELEMENTS word) (λ n. Ok (with_setup (record scene.setup { elements = pair_with 0 at n scene.setup.elements }) scene)) after e in
     let same : with_setup (record scene.setup { elements = pair_with 0 at read.0 scene.setup.elements }) scene ≡ after = cc in
-    record { setup = record scene.setup { elements = pair_with 0 at read.0 scene.setup.elements }; room = scene.room; same = same; ranged = λ h. record { subnet = h.subnet; links = h.links; size = h.size; rmbs = h.rmbs; elements = pair_keeps (λ n. (1 ≤ n) × (n ≤ MOST_ELEMENTS)) 0 read.0 scene.setup.elements (number_in_range 1 MOST_ELEMENTS word read.0 read.1) h.elements at; depth = h.depth; number = h.number; sockets = h.sockets; entries = h.entries; bytes = h.bytes } }
+    record { setup = record scene.setup { elements = pair_with 0 at read.0 scene.setup.elements }; room = scene.room; same = same; ranged = λ h. record { subnet = h.subnet; links = h.links; size = h.size; rmbs = h.rmbs; elements = pair_keeps (λ n. (1 ≤ n) × (n ≤ MOST_ELEMENTS)) 0 read.0 scene.setup.elements (number_in_range 1 MOST_ELEMENTS word read.0 read.1) h.elements at; depth = h.depth; number = h.number; sockets = h.sockets; entries = h.entries; bytes = h.bytes }; formed = λ h. record { capable = h.capable; subnet = h.subnet; rmbs = h.rmbs; elements = pair_with_is 0 at read.0 scene.setup.elements; addresses = h.addresses; links = h.links } }
 
 shared_changes : (setting : SharedSetting) (word : List ℕ) (scene after : PlainScene) → shared_value setting word scene ≡ Ok after → Changes scene after
 shared_changes shared.Size word scene after e =
     let read = bind_ok (number_in 0 MOST_SIZE_CODE word) (λ n. Ok (with_setup (record scene.setup { size_code = n }) scene)) after e in
     let same : with_setup (record scene.setup { size_code = read.0 }) scene ≡ after = cc in
-    record { setup = record scene.setup { size_code = read.0 }; room = scene.room; same = same; ranged = λ h. record { subnet = h.subnet; links = h.links; size = (number_in_range 0 MOST_SIZE_CODE word read.0 read.1).1; rmbs = h.rmbs; elements = h.elements; depth = h.depth; number = h.number; sockets = h.sockets; entries = h.entries; bytes = h.bytes } }
+    record { setup = record scene.setup { size_code = read.0 }; room = scene.room; same = same; ranged = λ h. record { subnet = h.subnet; links = h.links; size = (number_in_range 0 MOST_SIZE_CODE word read.0 read.1).1; rmbs = h.rmbs; elements = h.elements; depth = h.depth; number = h.number; sockets = h.sockets; entries = h.entries; bytes = h.bytes }; formed = λ h. record { capable = h.capable; subnet = h.subnet; rmbs = h.rmbs; elements = h.elements; addresses = h.addresses; links = h.links } }
 shared_changes shared.Depth word scene after e =
     let read = bind_ok (number_in 1 MOST_DEPTH word) (λ n. Ok (with_setup (record scene.setup { depth = n }) scene)) after e in
     let same : with_setup (record scene.setup { depth = read.0 }) scene ≡ after = cc in
-    record { setup = record scene.setup { depth = read.0 }; room = scene.room; same = same; ranged = λ h. record { subnet = h.subnet; links = h.links; size = h.size; rmbs = h.rmbs; elements = h.elements; depth = number_in_range 1 MOST_DEPTH word read.0 read.1; number = h.number; sockets = h.sockets; entries = h.entries; bytes = h.bytes } }
+    record { setup = record scene.setup { depth = read.0 }; room = scene.room; same = same; ranged = λ h. record { subnet = h.subnet; links = h.links; size = h.size; rmbs = h.rmbs; elements = h.elements; depth = number_in_range 1 MOST_DEPTH word read.0 read.1; number = h.number; sockets = h.sockets; entries = h.entries; bytes = h.bytes }; formed = λ h. record { capable = h.capable; subnet = h.subnet; rmbs = h.rmbs; elements = h.elements; addresses = h.addresses; links = h.links } }
 shared_changes shared.Number word scene after e =
     let read = bind_ok (number_in 1 MOST_NUMBER word) (λ n. Ok (with_setup (record scene.setup { number = n }) scene)) after e in
     let same : with_setup (record scene.setup { number = read.0 }) scene ≡ after = cc in
-    record { setup = record scene.setup { number = read.0 }; room = scene.room; same = same; ranged = λ h. record { subnet = h.subnet; links = h.links; size = h.size; rmbs = h.rmbs; elements = h.elements; depth = h.depth; number = number_in_range 1 MOST_NUMBER word read.0 read.1; sockets = h.sockets; entries = h.entries; bytes = h.bytes } }
+    record { setup = record scene.setup { number = read.0 }; room = scene.room; same = same; ranged = λ h. record { subnet = h.subnet; links = h.links; size = h.size; rmbs = h.rmbs; elements = h.elements; depth = h.depth; number = number_in_range 1 MOST_NUMBER word read.0 read.1; sockets = h.sockets; entries = h.entries; bytes = h.bytes }; formed = λ h. record { capable = h.capable; subnet = h.subnet; rmbs = h.rmbs; elements = h.elements; addresses = h.addresses; links = h.links } }
 shared_changes shared.Entries word scene after e =
     let read = bind_ok (number_in 1 MOST_ENTRIES word) (λ n. Ok (with_room (record scene.room { entries = n }) scene)) after e in
     let same : with_room (record scene.room { entries = read.0 }) scene ≡ after = cc in
-    record { setup = scene.setup; room = record scene.room { entries = read.0 }; same = same; ranged = λ h. record { subnet = h.subnet; links = h.links; size = h.size; rmbs = h.rmbs; elements = h.elements; depth = h.depth; number = h.number; sockets = h.sockets; entries = number_in_range 1 MOST_ENTRIES word read.0 read.1; bytes = h.bytes } }
+    record { setup = scene.setup; room = record scene.room { entries = read.0 }; same = same; ranged = λ h. record { subnet = h.subnet; links = h.links; size = h.size; rmbs = h.rmbs; elements = h.elements; depth = h.depth; number = h.number; sockets = h.sockets; entries = number_in_range 1 MOST_ENTRIES word read.0 read.1; bytes = h.bytes }; formed = λ h. record { capable = h.capable; subnet = h.subnet; rmbs = h.rmbs; elements = h.elements; addresses = h.addresses; links = h.links } }
 shared_changes shared.Bytes word scene after e =
     let read = bind_ok (number_in 1 MOST_BYTES word) (λ n. Ok (with_room (record scene.room { bytes = n }) scene)) after e in
     let same : with_room (record scene.room { bytes = read.0 }) scene ≡ after = cc in
-    record { setup = scene.setup; room = record scene.room { bytes = read.0 }; same = same; ranged = λ h. record { subnet = h.subnet; links = h.links; size = h.size; rmbs = h.rmbs; elements = h.elements; depth = h.depth; number = h.number; sockets = h.sockets; entries = h.entries; bytes = number_in_range 1 MOST_BYTES word read.0 read.1 } }
+    record { setup = scene.setup; room = record scene.room { bytes = read.0 }; same = same; ranged = λ h. record { subnet = h.subnet; links = h.links; size = h.size; rmbs = h.rmbs; elements = h.elements; depth = h.depth; number = h.number; sockets = h.sockets; entries = h.entries; bytes = number_in_range 1 MOST_BYTES word read.0 read.1 }; formed = λ h. record { capable = h.capable; subnet = h.subnet; rmbs = h.rmbs; elements = h.elements; addresses = h.addresses; links = h.links } }
 
 or_bad_ok : {X : Type 0} (read : Result X LineKind) (x : X) → or_bad read ≡ Ok x → read ≡ Ok x
 or_bad_ok (Ok y) x e = cc

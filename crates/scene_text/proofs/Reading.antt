@@ -15,7 +15,8 @@ use Rattle.scene_text.specs.declared.faults.SceneFault.TheVariants.{NoMemory, Ba
 use Rattle.scene_text.specs.Words.{◌>>=◌, words_of}
 use Rattle.scene_text.specs.Scenes.{PlainScene, limit_passed, unless_passed, within_limits, IsWithinLimits}
 use Rattle.scene_text.specs.Settings.{PlainDraft, with_scene, set_said}
-use Rattle.scene_text.specs.Grammar.{command_of, row_of, is_printable, is_passed_over, limited, line_done, words_said, after_line, at_line, after_lines, IsFault}
+use Rattle.scene_text.specs.Commands.{command_of, row_of}
+use Rattle.scene_text.specs.Grammar.{is_printable, is_passed_over, limited, line_done, words_said, after_line, at_line, after_lines, IsFault}
 use Rattle.scene_text.proofs.Ranges.{Changes, bind_ok, with_scene_ok, set_changes}
 
 none_chosen : (x y z : Bool) (a b c : ℕ) → cond x (Some a) (cond y (Some b) (cond z (Some c) None)) ≡ None → (x ≡ false) × (y ≡ false) × (z ≡ false)
@@ -83,7 +84,7 @@ line_within = line_keeps IsWithinLimits done_within set_within
 pub lines_within : (n : ℕ) (lines : List (List ℕ)) (draft after : PlainDraft) → after_lines n lines draft ≡ Ok after → IsWithinLimits draft.scene → IsWithinLimits after.scene
 lines_within = lines_keep IsWithinLimits done_within set_within
 
-first_of_parts : (line : List ℕ) (parts : List (List ℕ)) (n : ℕ) → length parts ≡ n + 1 → lines_of_parts (line ∷ parts) ≡ strip_carriage_return line ∷ lines_of_parts parts
+pub first_of_parts : (line : List ℕ) (parts : List (List ℕ)) (n : ℕ) → length parts ≡ n + 1 → lines_of_parts (line ∷ parts) ≡ strip_carriage_return line ∷ lines_of_parts parts
 first_of_parts line [] n e = absurd (omega arith)
 first_of_parts line (part ∷ parts) n e = refl
 

@@ -10,57 +10,12 @@ use Rattle.scene_text.specs.declared.faults.LineFault.{LineFault}
 use Rattle.scene_text.specs.declared.faults.LineFault.TheVariants.{NoMemory, Bad, Passes}
 use Rattle.scene_text.specs.declared.faults.SceneFault.{SceneFault}
 use Rattle.scene_text.specs.declared.faults.SceneFault.TheVariants as faults
-use Rattle.scene_text.specs.declared.grammar.Command.{Command}
-use Rattle.scene_text.specs.declared.grammar.Command.TheVariants.{Open, Pump, Write, Read, Clc, Deliver, Complete}
-use Rattle.scene_text.specs.declared.limits.TheConstants.{MOST_PUMP_STEPS, MOST_READ_BYTES}
 use Rattle.scene_text.specs.declared.scenes.Scene.{Scene}
 use Rattle.scene_text.specs.declared.settings.Draft.{Draft}
-use Rattle.scene_text.specs.Words.{◌>>=◌, words_of, number_in, name_of, side_in, end_of, runs_of, bytes_in}
-use Rattle.scene_text.specs.Scenes.{PlainScene, plain, opens, pumps, writes, reads, clcs, delivers, completes, within_limits, with_sockets}
+use Rattle.scene_text.specs.Words.{◌>>=◌, words_of}
+use Rattle.scene_text.specs.Scenes.{PlainScene, plain, within_limits, with_sockets}
+use Rattle.scene_text.specs.Commands.{command_of, row_of}
 use Rattle.scene_text.specs.Settings.{PlainDraft, plain_draft, empty_draft, with_scene, set_said}
-
--- the first words of lines at which something is done, and what they stand for
-abbrev pub command_of : List ℕ → Result Command LineKind
-command_of word =
-    if bytes_eq word (codes "open") then Ok Open
-    else if bytes_eq word (codes "pump") then Ok Pump
-    else if bytes_eq word (codes "write") then Ok Write
-    else if bytes_eq word (codes "read") then Ok Read
-    else if bytes_eq word (codes "clc") then Ok Clc
-    else if bytes_eq word (codes "deliver") then Ok Deliver
-    else if bytes_eq word (codes "complete") then Ok Complete
-    else Err kinds.Word
-
--- the lines `open NAME`, `pump N`, `write END BYTES`, `read END N`, `clc NAME SIDE`, `deliver N SIDE` and
--- `complete N SIDE`, and what they make of a scene; a slot is one of those that are set
-abbrev pub row_of : Command → List (List ℕ) → PlainScene → Result PlainScene LineKind
-row_of Open (name ∷ []) scene = do
-  name ← name_of name
-  Ok (opens name scene)
-row_of Pump (count ∷ []) scene = do
-  count ← number_in 1 MOST_PUMP_STEPS count
-  Ok (pumps count scene)
-row_of Write (end ∷ bytes ∷ []) scene = do
-  end ← end_of end
-  runs ← runs_of bytes
-  Ok (writes end (bytes_in runs) scene)
-row_of Read (end ∷ len ∷ []) scene = do
-  end ← end_of end
-  len ← number_in 0 MOST_READ_BYTES len
-  Ok (reads end len scene)
-row_of Clc (name ∷ side ∷ []) scene = do
-  name ← name_of name
-  dir ← side_in side
-  Ok (clcs name dir scene)
-row_of Deliver (slot ∷ side ∷ []) scene = do
-  slot ← number_in 1 scene.setup.links slot
-  dir ← side_in side
-  Ok (delivers slot dir scene)
-row_of Complete (slot ∷ side ∷ []) scene = do
-  slot ← number_in 1 scene.setup.links slot
-  dir ← side_in side
-  Ok (completes slot dir scene)
-row_of _ _ scene = Err kinds.Count
 
 -- a byte that a line may have
 abbrev pub is_printable : ℕ → Bool

@@ -5,5 +5,8 @@ pub mod PostText
 pub mod HistoryText
 pub mod Words
 pub mod Scenes
+pub mod Shapes
+pub mod Commands
 pub mod Settings
 pub mod Grammar
+pub mod Printing

@@ -8,8 +8,6 @@ use Rattle.smc_num.specs.declared.Side.{Side}
 use Rattle.smc_num.specs.Names.{at_side}
 use Rattle.pipe_model.specs.declared.setup.Setup.{Setup}
 use Rattle.pipe_model.specs.declared.setup.Room.{Room}
-use Rattle.pipe_model.specs.declared.event.End.{End}
-use Rattle.pipe_model.specs.declared.event.Event.TheVariants as events
 use Rattle.pipe_model.specs.Settings.{default_setup, default_room}
 use Rattle.pipe_model.specs.Words.{rmbs_of, elements_of}
 use Rattle.pipe_model.specs.Fits.{Fits}
@@ -20,7 +18,6 @@ use Rattle.scene_text.specs.declared.scenes.SceneWhat.{SceneWhat}
 use Rattle.scene_text.specs.declared.scenes.SceneWhat.TheVariants.{One, Pump}
 use Rattle.scene_text.specs.declared.scenes.SceneLine.{SceneLine}
 use Rattle.scene_text.specs.declared.scenes.Scene.{Scene}
-use Rattle.scene_text.specs.Words.{NamedEnd}
 
 -- a scene as plain values
 pub record PlainScene : Type 0 where
@@ -63,42 +60,9 @@ socket_of names name = position_or_len (bytes_eq name) names
 abbrev pub mentioned : List (List ℕ) → List ℕ → List (List ℕ)
 mentioned names name = if nat_lt (socket_of names name) (length names) then names else names ++ name ∷ []
 
--- a scene that mentions a name, has more bytes, has one more line
+-- a scene that mentions a name
 abbrev pub with_name : List ℕ → PlainScene → PlainScene
 with_name name scene = record scene { names = mentioned scene.names name }
-
-abbrev pub with_bytes : List ℕ → PlainScene → PlainScene
-with_bytes bytes scene = record scene { payload = scene.payload ++ bytes }
-
-abbrev pub with_line : SceneWhat → PlainScene → PlainScene
-with_line what scene = record scene { lines = scene.lines ++ (record { what = what }) ∷ [] }
-
--- an end of the socket that has this number
-abbrev pub socket_end : PlainScene → NamedEnd → End
-socket_end scene end = record { side = end.side; s = socket_of scene.names end.name }
-
--- What a line of each word makes of a scene. An event names its socket by number, and the bytes that
--- it writes by where they lie in the payload.
-abbrev pub opens : List ℕ → PlainScene → PlainScene
-opens name scene = with_line (One (events.Open (socket_of scene.names name))) (with_name name scene)
-
-abbrev pub pumps : ℕ → PlainScene → PlainScene
-pumps count scene = with_line (Pump count) scene
-
-abbrev pub writes : NamedEnd → List ℕ → PlainScene → PlainScene
-writes end bytes scene = with_line (One (events.Write (socket_end scene end) (length scene.payload) (length bytes))) (with_bytes bytes (with_name end.name scene))
-
-abbrev pub clcs : List ℕ → Side → PlainScene → PlainScene
-clcs name dir scene = with_line (One (events.Clc (socket_of scene.names name) dir)) (with_name name scene)
-
-abbrev pub delivers : ℕ → Side → PlainScene → PlainScene
-delivers slot dir scene = with_line (One (events.Deliver slot dir)) scene
-
-abbrev pub completes : ℕ → Side → PlainScene → PlainScene
-completes slot dir scene = with_line (One (events.Complete slot dir)) scene
-
-abbrev pub reads : NamedEnd → ℕ → PlainScene → PlainScene
-reads end len scene = with_line (One (events.Read (socket_end scene end) len)) (with_name end.name scene)
 
 -- as many sockets as names, but at least one
 abbrev pub with_sockets : PlainScene → PlainScene

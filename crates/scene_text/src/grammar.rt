@@ -1,142 +1,18 @@
 //! The grammar of scenes: what the lines of a text say.
 
-ghost use Rattle.std.specs.Prelude.{◌≡◌, ◌==◌, ◌<◌, ◌^◌, [], ◌∷◌, length, map, OnOk, IfOk, IfErr, Ok};
+ghost use Rattle.std.specs.Prelude.{◌≡◌, ◌==◌, ◌<◌, ◌^◌, length, map, OnOk, IfOk, IfErr, Ok};
 ghost use Rattle.std.specs.List.{list_all};
 ghost use Rattle.std.specs.Str.Lines.{strip_carriage_return, lines};
 ghost use Rattle.scene_text.specs.Scenes.{plain, Makes, IsWithinLimits, IsSound};
 ghost use Rattle.scene_text.specs.Settings.{plain_draft, empty_draft};
-ghost use Rattle.scene_text.specs.Grammar.{command_of, row_of, is_printable, is_passed_over, limited, line_done, words_said, after_line, fault_at, at_line, after_lines, scene_of, IsFault, IsDrafted, IsRead};
+ghost use Rattle.scene_text.specs.Grammar.{is_printable, is_passed_over, line_done, words_said, after_line, fault_at, at_line, after_lines, scene_of, IsFault, IsDrafted, IsRead};
 
+use crate::commands::command_of;
 use crate::faults::{LineFault, LineKind, SceneFault};
-use crate::limits::{MOST_PUMP_STEPS, MOST_READ_BYTES};
 use crate::scenes::Scene;
 use crate::settings::Draft;
-use crate::words::{cut, end_of, name_of, number_in, runs_of, side_in, small_in, words_of};
+use crate::words::{cut, words_of};
 use std::alloc::Global;
-
-/// What the first word of a line stands for, unless it is `set`.
-#[derive(Clone, Copy, Debug, PartialEq, Eq)]
-enum Command {
-    Open,
-    Pump,
-    Write,
-    Read,
-    Clc,
-    Deliver,
-    Complete,
-}
-
-fn command_of(word: &[u8]) -> Result<Command, LineKind>
-    ensures { result ≡ command_of word.now }
-{
-    if word == b"open".as_slice() {
-        Ok(Command::Open)
-    } else if word == b"pump".as_slice() {
-        Ok(Command::Pump)
-    } else if word == b"write".as_slice() {
-        Ok(Command::Write)
-    } else if word == b"read".as_slice() {
-        Ok(Command::Read)
-    } else if word == b"clc".as_slice() {
-        Ok(Command::Clc)
-    } else if word == b"deliver".as_slice() {
-        Ok(Command::Deliver)
-    } else if word == b"complete".as_slice() {
-        Ok(Command::Complete)
-    } else {
-        Err(LineKind::Word)
-    }
-}
-
-/// The line `open NAME`.
-fn take_open(alloc: Global, scene: &mut Scene, name: &[u8]) -> Result<(), LineFault>
-    requires { IsWithinLimits (plain scene.old) }
-    ensures { Makes result (plain scene.new) (limited (row_of Command.Open (name.now ∷ []) (plain scene.old))) }
-{
-    let name = name_of(name)?;
-    scene.open(alloc, name)
-}
-
-/// The line `pump N`.
-fn take_pump(scene: &mut Scene, count: &[u8]) -> Result<(), LineFault>
-    requires { IsWithinLimits (plain scene.old) }
-    ensures { Makes result (plain scene.new) (limited (row_of Command.Pump (count.now ∷ []) (plain scene.old))) }
-{
-    let count = number_in(count, 1, MOST_PUMP_STEPS)?;
-    scene.pump(count)
-}
-
-/// The line `write END BYTES`.
-fn take_write(alloc: Global, scene: &mut Scene, end: &[u8], bytes: &[u8]) -> Result<(), LineFault>
-    requires { IsWithinLimits (plain scene.old) }
-    ensures { Makes result (plain scene.new) (limited (row_of Command.Write (end.now ∷ bytes.now ∷ []) (plain scene.old))) }
-{
-    let end = end_of(end)?;
-    let runs = runs_of(alloc, bytes)?;
-    scene.write(alloc, end, &runs)
-}
-
-/// The line `read END N`.
-fn take_read(alloc: Global, scene: &mut Scene, end: &[u8], len: &[u8]) -> Result<(), LineFault>
-    requires { IsWithinLimits (plain scene.old) }
-    ensures { Makes result (plain scene.new) (limited (row_of Command.Read (end.now ∷ len.now ∷ []) (plain scene.old))) }
-{
-    let end = end_of(end)?;
-    let len = number_in(len, 0, MOST_READ_BYTES)?;
-    scene.read(alloc, end, len)
-}
-
-/// The line `clc NAME SIDE`.
-fn take_clc(alloc: Global, scene: &mut Scene, name: &[u8], side: &[u8]) -> Result<(), LineFault>
-    requires { IsWithinLimits (plain scene.old) }
-    ensures { Makes result (plain scene.new) (limited (row_of Command.Clc (name.now ∷ side.now ∷ []) (plain scene.old))) }
-{
-    let name = name_of(name)?;
-    let dir = side_in(side)?;
-    scene.clc(alloc, name, dir)
-}
-
-/// The line `deliver N SIDE`.
-fn take_deliver(scene: &mut Scene, slot: &[u8], side: &[u8]) -> Result<(), LineFault>
-    requires { IsWithinLimits (plain scene.old) }
-    ensures { Makes result (plain scene.new) (limited (row_of Command.Deliver (slot.now ∷ side.now ∷ []) (plain scene.old))) }
-{
-    let slot = small_in(slot, 1, scene.setup.links)?;
-    let dir = side_in(side)?;
-    scene.deliver(slot, dir)
-}
-
-/// The line `complete N SIDE`.
-fn take_complete(scene: &mut Scene, slot: &[u8], side: &[u8]) -> Result<(), LineFault>
-    requires { IsWithinLimits (plain scene.old) }
-    ensures { Makes result (plain scene.new) (limited (row_of Command.Complete (slot.now ∷ side.now ∷ []) (plain scene.old))) }
-{
-    let slot = small_in(slot, 1, scene.setup.links)?;
-    let dir = side_in(side)?;
-    scene.complete(slot, dir)
-}
-
-/// Does to a scene what a line says.
-fn take(
-    alloc: Global,
-    scene: &mut Scene,
-    command: Command,
-    arguments: &[&[u8]],
-) -> Result<(), LineFault>
-    requires { IsWithinLimits (plain scene.old) }
-    ensures { Makes result (plain scene.new) (limited (row_of command (map (λ w. w.now) arguments.now) (plain scene.old))) }
-{
-    match (command, arguments) {
-        (Command::Open, [name]) => take_open(alloc, scene, name),
-        (Command::Pump, [count]) => take_pump(scene, count),
-        (Command::Write, [end, bytes]) => take_write(alloc, scene, end, bytes),
-        (Command::Read, [end, len]) => take_read(alloc, scene, end, len),
-        (Command::Clc, [name, side]) => take_clc(alloc, scene, name, side),
-        (Command::Deliver, [slot, side]) => take_deliver(scene, slot, side),
-        (Command::Complete, [slot, side]) => take_complete(scene, slot, side),
-        _ => Err(LineFault::Bad(LineKind::Count)),
-    }
-}
 
 fn are_spaces(line: &[u8]) -> bool
     ensures { result ≡ list_all (λ b. b == 32) line.now }
@@ -172,7 +48,7 @@ fn read_done(
     ensures { Makes result (plain scene.new) (line_done word.now (map (λ w. w.now) arguments.now) (plain scene.old)) }
 {
     let command = command_of(word)?;
-    take(alloc, scene, command, arguments)
+    scene.take(alloc, command, arguments)
 }
 
 /// Reads the words of a line.

@@ -1,15 +1,14 @@
 //! Scenes, and what a line adds to them.
 
 ghost use Rattle.std.specs.Prelude.{◌≡◌, ◌≤◌, ◌+◌, ◌++◌, length, map, IfOk, IfErr, OnOk, Some, None, nat_le, if◌then◌else◌};
-ghost use Rattle.scene_text.specs.declared.faults.LineFault.TheVariants.{NoMemory as NoRoom};
-ghost use Rattle.scene_text.specs.Words.{named_end, bytes_in};
-ghost use Rattle.scene_text.specs.Scenes.{built_setup, plain, names_in, empty_scene, socket_of, mentioned, with_name, with_line, opens, pumps, writes, reads, clcs, delivers, completes, with_sockets, limit_passed, unless_passed, within_limits, Makes, IsWithinLimits};
+ghost use Rattle.scene_text.specs.Words.{bytes_in};
+ghost use Rattle.scene_text.specs.Scenes.{built_setup, plain, names_in, empty_scene, socket_of, mentioned, with_name, with_sockets, limit_passed, unless_passed, IsWithinLimits};
 
 use crate::faults::LineFault;
 use crate::limits::{MOST_EVENT_LINES, MOST_NAMES, MOST_PAYLOAD_BYTES};
-use crate::words::{NamedEnd, Run};
+use crate::words::Run;
 use indexmap::IndexMap;
-use pipe_model::{End, Event, Room, Setup, Side};
+use pipe_model::{Event, Room, Setup};
 use std::alloc::{AllocError, Global};
 
 /// What is done at a line of a scene.
@@ -59,7 +58,7 @@ fn mention(alloc: Global, names: &mut IndexMap<String, ()>, name: &str) -> Resul
 }
 
 /// How many bytes runs are, if they are at most `most`.
-fn count_of(runs: &[Run], most: u32) -> Option<u32>
+pub(crate) fn count_of(runs: &[Run], most: u32) -> Option<u32>
     ensures { result ≡ (if nat_le (length (bytes_in runs.now)) most then Some (length (bytes_in runs.now)) else None) }
 {
     let mut count = 0u32;
@@ -73,7 +72,7 @@ fn count_of(runs: &[Run], most: u32) -> Option<u32>
 }
 
 /// Appends the bytes of runs.
-fn push_runs(bytes: &mut Vec<u8>, runs: &[Run]) -> Result<(), AllocError>
+pub(crate) fn push_runs(bytes: &mut Vec<u8>, runs: &[Run]) -> Result<(), AllocError>
     ensures { OnOk result (bytes.new.items ≡ bytes.old.items ++ bytes_in runs.now) }
 {
     for run in runs {
@@ -111,7 +110,7 @@ impl Scene {
 
     /// The number of a name, which is mentioned now.
     #[tactic(auto, using(crate::proofs::Mentions::socket_within))]
-    fn socket(&mut self, alloc: Global, name: &str) -> Result<u32, AllocError>
+    pub(crate) fn socket(&mut self, alloc: Global, name: &str) -> Result<u32, AllocError>
         requires { IsWithinLimits (plain self.old) }
         ensures number { IfOk result (λ s. s ≡ socket_of (plain self.old).names name.now) }
         ensures named { OnOk result (plain self.new ≡ with_name name.now (plain self.old)) }
@@ -121,7 +120,7 @@ impl Scene {
     }
 
     /// Refuses too many names, and another line where there may be none.
-    fn test_line(&self) -> Result<(), LineFault>
+    pub(crate) fn test_line(&self) -> Result<(), LineFault>
         requires { length (plain self.now).payload ≤ MOST_PAYLOAD_BYTES }
         ensures { result ≡ unless_passed (limit_passed (length (plain self.now).names) (length (plain self.now).lines + 1) (length (plain self.now).payload)) tt }
     {
@@ -134,98 +133,6 @@ impl Scene {
             });
         }
         Ok(())
-    }
-
-    /// Adds a line.
-    fn add(&mut self, what: SceneWhat) -> Result<(), LineFault>
-        requires { length (plain self.old).payload ≤ MOST_PAYLOAD_BYTES }
-        ensures { Makes result (plain self.new) (within_limits (with_line what (plain self.old))) }
-    {
-        self.test_line()?;
-        self.lines.push(SceneLine { what })?;
-        Ok(())
-    }
-
-    /// The line `open NAME`.
-    pub(crate) fn open(&mut self, alloc: Global, name: &str) -> Result<(), LineFault>
-        requires { IsWithinLimits (plain self.old) }
-        ensures { Makes result (plain self.new) (within_limits (opens name.now (plain self.old))) }
-    {
-        let s = self.socket(alloc, name)?;
-        self.add(SceneWhat::One(Event::Open(s)))
-    }
-
-    /// The line `pump N`.
-    pub(crate) fn pump(&mut self, count: u32) -> Result<(), LineFault>
-        requires { IsWithinLimits (plain self.old) }
-        ensures { Makes result (plain self.new) (within_limits (pumps count (plain self.old))) }
-    {
-        self.add(SceneWhat::Pump(count))
-    }
-
-    /// The line `write END BYTES`.
-    pub(crate) fn write(
-        &mut self,
-        alloc: Global,
-        end: NamedEnd<'_>,
-        runs: &[Run],
-    ) -> Result<(), LineFault>
-        requires { IsWithinLimits (plain self.old) }
-        ensures { Makes result (plain self.new) (within_limits (writes (named_end end.entry) (bytes_in runs.now) (plain self.old))) }
-    {
-        let s = self.socket(alloc, end.name)?;
-        self.test_line()?;
-        let at = self.payload.len() as u32;
-        let Some(len) = count_of(runs, MOST_PAYLOAD_BYTES - at) else {
-            return Err(LineFault::Passes {
-                limit: MOST_PAYLOAD_BYTES,
-            });
-        };
-        push_runs(&mut self.payload, runs)?;
-        let end = End { side: end.side, s };
-        let what = SceneWhat::One(Event::Write { end, at, len });
-        self.lines.push(SceneLine { what })?;
-        Ok(())
-    }
-
-    /// The line `read END N`.
-    pub(crate) fn read(
-        &mut self,
-        alloc: Global,
-        end: NamedEnd<'_>,
-        len: u32,
-    ) -> Result<(), LineFault>
-        requires { IsWithinLimits (plain self.old) }
-        ensures { Makes result (plain self.new) (within_limits (reads (named_end end.entry) len (plain self.old))) }
-    {
-        let s = self.socket(alloc, end.name)?;
-        let end = End { side: end.side, s };
-        self.add(SceneWhat::One(Event::Read { end, len }))
-    }
-
-    /// The line `clc NAME SIDE`.
-    pub(crate) fn clc(&mut self, alloc: Global, name: &str, dir: Side) -> Result<(), LineFault>
-        requires { IsWithinLimits (plain self.old) }
-        ensures { Makes result (plain self.new) (within_limits (clcs name.now dir (plain self.old))) }
-    {
-        let s = self.socket(alloc, name)?;
-        self.add(SceneWhat::One(Event::Clc { s, dir }))
-    }
-
-    /// The line `deliver N SIDE`.
-    pub(crate) fn deliver(&mut self, slot: u8, dir: Side) -> Result<(), LineFault>
-        requires { IsWithinLimits (plain self.old) }
-        ensures { Makes result (plain self.new) (within_limits (delivers slot dir (plain self.old))) }
-    {
-        self.add(SceneWhat::One(Event::Deliver { slot, dir }))
-    }
-
-    /// The line `complete N SIDE`.
-    pub(crate) fn complete(&mut self, slot: u8, dir: Side) -> Result<(), LineFault>
-        requires { IsWithinLimits (plain self.old) }
-        ensures { Makes result (plain self.new) (within_limits (completes slot dir (plain self.old))) }
-    {
-        self.add(SceneWhat::One(Event::Complete { slot, dir }))
     }
 
     /// Sets the number of sockets: as many as there are names, but at least one.

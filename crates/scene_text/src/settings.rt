@@ -19,7 +19,7 @@ use std::alloc::Global;
 
 /// A setting that each side has of its own.
 #[derive(Clone, Copy, Debug, PartialEq, Eq)]
-enum SideSetting {
+pub(crate) enum SideSetting {
     Capable,
     Subnet,
     Rmbs,
@@ -28,7 +28,7 @@ enum SideSetting {
 
 /// A setting that both sides have in common.
 #[derive(Clone, Copy, Debug, PartialEq, Eq)]
-enum SharedSetting {
+pub(crate) enum SharedSetting {
     Size,
     Depth,
     Number,

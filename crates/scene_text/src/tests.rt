@@ -223,3 +223,85 @@ fn settings(rt: HostRuntime) -> Result<(), Fail> {
     assert_eq!(rt; scene.setup.subnet, [(0, 0), (0xffff_ffff, 32)]);
     Ok(())
 }
+
+/// The text of a scene that is printed.
+fn printed(alloc: Global, text: &[u8]) -> Result<Vec<u8>, AllocError> {
+    let mut out = Vec::new(alloc);
+    if text.len() < 100_000 {
+        if let Ok(scene) = read_scene(alloc, text) {
+            if print_scene(alloc, &scene, &mut out).is_err() {
+                return Err(AllocError);
+            }
+        }
+    }
+    Ok(out)
+}
+
+/// The settings of a scene that sets nothing, and of one that sets all.
+const DEFAULTS: &str =
+    "set capable A yes\nset capable B yes\nset subnet A 10.0.0.0/24\nset subnet B 10.0.0.0/24\nset size 0\nset rmbs A 1\nset rmbs B 1\nset elements A 4\nset elements B 4\nset depth 1\nset number 1\nset entries 65536\nset bytes 1048576\n";
+
+const OTHERS: &str =
+    "set capable A yes\nset capable B no\nset subnet A 0.0.0.0/0\nset subnet B 255.255.255.255/32\nset size 5\nset rmbs A 1\nset rmbs B 1\nset elements A 7\nset elements B 32\nset depth 1\nset number 65535\nset entries 262144\nset bytes 67108864\n";
+
+#[test]
+fn printed_scenes(rt: HostRuntime) -> Result<(), Fail> {
+    let rows = [
+        ("", DEFAULTS, ""),
+        (
+            "# x\nopen  s\nwrite A.s AA,aa",
+            DEFAULTS,
+            "open s\nwrite A.s aa*2\n",
+        ),
+        (
+            "set bytes 067108864\nset entries 262144\nset number 65535\nset depth 1\nset elements B 32\nset elements A 7\nset rmbs A 1\nset size 5\nset subnet B 255.255.255.255/32\nset subnet A 000.0.0.0/00\nset capable B no\n",
+            OTHERS,
+            "",
+        ),
+        (
+            " open b_1 \r\npump 00010\nwrite B.a -\nwrite A.b_1 00*00002,00,0F\nread B.a 0\nclc a B\ndeliver 01 A\ncomplete 1 B\nopen a",
+            DEFAULTS,
+            "open b_1\npump 10\nwrite B.a -\nwrite A.b_1 00*3,0f\nread B.a 0\nclc a B\ndeliver 1 A\ncomplete 1 B\nopen a\n",
+        ),
+        (
+            "open s\npump 9\nwrite A.s 68,69,69*16000000\nread B.s 1048576\n",
+            DEFAULTS,
+            "open s\npump 9\nwrite A.s 68,69*16000001\nread B.s 1048576\n",
+        ),
+    ];
+    for (text, settings, lines) in rows {
+        let out = printed(rt.alloc(), text.as_bytes())?;
+        let mut wanted = String::from_str(rt.alloc(), settings)?;
+        wanted.push_str(lines)?;
+        assert_eq!(rt; out.as_slice(), wanted.as_bytes());
+        let again = printed(rt.alloc(), wanted.as_bytes())?;
+        assert_eq!(rt; again.as_slice(), wanted.as_bytes());
+    }
+    Ok(())
+}
+
+/// The scenes of the folder `scenes` that are not refused, without their comments.
+#[test]
+fn scenes_of_the_folder(rt: HostRuntime) -> Result<(), Fail> {
+    let scenes = [
+        "set bytes 1\nopen s\npump 9\nwrite A.s 68,69\npump 2\nread B.s 9\n",
+        "open s\npump 9\nwrite A.s 61*16380\npump 4\nread B.s 16380\npump 2\nwrite A.s 62*20\n",
+        "",
+        "set entries 2\nopen s\npump 9\n",
+        "open s\npump 9\nwrite A.s 68,69\npump 2\nread B.s 9\n",
+        "open a\nopen b\nclc a A\nclc b A\n",
+        "set rmbs A 1\nset elements A 1\nopen s\npump 9\nopen t\nclc t A\nclc t B\nclc t A\nwrite B.t 07\nread A.t 1\nopen u\nclc u A\n",
+        "set subnet B 10.0.1.0/24\nopen s\nclc s A\nclc s B\nwrite A.s 01,02\nread B.s 9\n",
+        "set rmbs B 1\nset elements B 2\nopen a\npump 9\nopen b\npump 9\nopen c\nclc c A\nclc c B\nwrite A.c 01,02\nread B.c 9\n",
+        "set capable B no\nopen s\nwrite A.s 05\nread B.s 9\nopen s\nread A.x 1\n",
+        "open s\npump 9\nopen t\nclc t A\nclc t B\nwrite A.t 41\ndeliver 1 A\ndeliver 1 A\nread B.t 5\nclc t A\nread B.t 5\n",
+        "open s\npump 9\nwrite A.s 61*16385\nwrite A.s 62\npump 4\nread B.s 100\npump 1\nwrite A.s 62*200\n",
+    ];
+    for text in scenes {
+        let out = printed(rt.alloc(), text.as_bytes())?;
+        assert!(rt; out.len() > 200);
+        let again = printed(rt.alloc(), &out)?;
+        assert_eq!(rt; again.as_slice(), out.as_slice());
+    }
+    Ok(())
+}
