@@ -1,0 +1,3 @@
+pub mod FrameByFrame
+pub mod ReadAgain
+pub mod WhatWasRead
