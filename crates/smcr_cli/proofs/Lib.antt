@@ -4,6 +4,10 @@ pub mod Worlds
 pub mod Commands
 pub mod Inputs
 pub mod LawfulRuns
-pub mod Parts
+pub mod Chains
 pub mod Shares
 pub mod Showing
+pub mod Putting
+pub mod Listing
+pub mod Sent
+pub mod Complete

@@ -1,9 +1,13 @@
 -- The runs of bytes, as a printer comes by them from the left.
-use Rattle.std.proofs.Common.{◌≡◌, ◌∙◌, ℕ, ◌+◌, ◌<◌, ◌==◌, Bool, true, false, if◌then◌else◌, List, [], ◌∷◌, ◌++◌, length, drop, get_or, codes, refl, sym, ap, arith, append_assoc}
+use Rattle.std.proofs.Common.{◌≡◌, ◌∙◌, ℕ, ◌+◌, ◌<◌, ◌≤◌, ◌==◌, Bool, true, false, if◌then◌else◌, List, [], ◌∷◌, ◌++◌, length, drop, get_or, codes, Option, Result, refl, sym, ap, subst, arith, append_assoc, append-nil}
 use Rattle.std.specs.List.{join_by, flat_map}
+use Rattle.std.specs.Result.{IsErr}
 use Rattle.std.proofs.lemmas.Bool.{eq-eqb, ne_eqb, cond-true, cond-false}
 use Rattle.std.proofs.lemmas.List.{drop_more}
+use Rattle.byte_port.specs.Pages.{Stands, Wrote}
+use Rattle.byte_port.proofs.Paging.{Going, one_more, behind}
 use Rattle.scene_text.specs.Spelling.{Run, run_with, runs, run_text}
+use Rattle.smcr_cli.proofs.Putting.{broke_off, last_one, none_left}
 
 -- so many of one byte in front of runs
 abbrev pub add_run : ℕ → ℕ → List Run → List Run
@@ -49,38 +53,56 @@ with_one : (b : ℕ) (rs : List Run) → run_with b rs ≡ add_run b 1 rs
 with_one b [] = refl
 with_one b (r ∷ rs) = refl
 
--- what is to be printed stays the same when the next byte is that of the run
-pub same_byte : (out start : List ℕ) (b c n i : ℕ) (rest : List ℕ) → i < length rest → get_or rest i 0 ≡ c → c ≡ b →
-    out ++ joined (add_run b n (runs (drop i rest))) ≡ start →
-    out ++ joined (add_run b (n + 1) (runs (drop (i + 1) rest))) ≡ start
-same_byte out start b c n i rest l e f so_far =
-    let front : runs (drop i rest) ≡ run_with b (runs (drop (i + 1) rest)) = ap runs (drop_more rest i 0 l) ∙ ap (λ x. run_with x (runs (drop (i + 1) rest))) (e ∙ f) in
-    ap (λ rs. out ++ joined rs) (sym (ap (add_run b n) front ∙ again b n (runs (drop (i + 1) rest)))) ∙ so_far
+module _ (b n i : ℕ) (rest : List ℕ) (l : i < length rest) where
+  -- what is to be put stays the same when the next byte is that of the run
+  pub same_byte : get_or rest i 0 ≡ b → joined (add_run b n (runs (drop i rest))) ≡ joined (add_run b (n + 1) (runs (drop (i + 1) rest)))
+  same_byte e =
+      let rs : List Run = runs (drop (i + 1) rest) in
+      ap (λ qs. joined (add_run b n qs)) (ap runs (drop_more rest i 0 l) ∙ ap (λ x. run_with x rs) e) ∙ ap joined (again b n rs)
 
--- and when it is another one, once the run and a comma are printed
-pub other_byte : (out new start : List ℕ) (b c n i : ℕ) (rest : List ℕ) → i < length rest → get_or rest i 0 ≡ c → (c ≡ b → ⊥) →
-    new ≡ (out ++ run_text (record { byte = b; count = n })) ++ codes "," →
-    out ++ joined (add_run b n (runs (drop i rest))) ≡ start →
-    new ++ joined (add_run c 1 (runs (drop (i + 1) rest))) ≡ start
-other_byte out new start b c n i rest l e ne printed so_far =
-    let rs : List Run = runs (drop (i + 1) rest) in
-    let front : runs (drop i rest) ≡ run_with c rs = ap runs (drop_more rest i 0 l) ∙ ap (λ x. run_with x rs) e in
-    ap (λ text. text ++ joined (add_run c 1 rs)) printed ∙ ap (λ qs. ((out ++ run_text (of_byte b n)) ++ codes ",") ++ joined qs) (sym (with_one c rs))
-    ∙ append_assoc (out ++ run_text (of_byte b n)) (codes ",") (joined (run_with c rs)) ∙ append_assoc out (run_text (of_byte b n)) (codes "," ++ joined (run_with c rs))
-    ∙ ap (λ text. out ++ text) (sym (ended b c n rs (ne_eqb b c (λ q. ne (sym q))))) ∙ ap (λ qs. out ++ joined (add_run b n qs)) (sym front) ∙ so_far
+  -- and when it is another one, the run stands in front, and a comma
+  pub other_byte : (get_or rest i 0 ≡ b → ⊥) → joined (add_run b n (runs (drop i rest))) ≡ (run_text (of_byte b n) ++ codes ",") ++ joined (add_run (get_or rest i 0) 1 (runs (drop (i + 1) rest)))
+  other_byte ne =
+      let c : ℕ = get_or rest i 0 in
+      let rs : List Run = runs (drop (i + 1) rest) in
+      ap (λ qs. joined (add_run b n qs)) (ap runs (drop_more rest i 0 l)) ∙ ended b c n rs (ne_eqb b c (λ q. ne (sym q)))
+      ∙ ap (λ qs. run_text (of_byte b n) ++ (codes "," ++ joined qs)) (with_one c rs) ∙ sym (append_assoc (run_text (of_byte b n)) (codes ",") (joined (add_run c 1 rs)))
 
--- the two cases as a loop has them
-pub next_same : (out out' start : List ℕ) (b b' n n' i : ℕ) (rest : List ℕ) → i < length rest → get_or rest i 0 ≡ b → out' ≡ out → b' ≡ b → n' ≡ n + 1 →
-    out ++ joined (add_run b n (runs (drop i rest))) ≡ start →
-    out' ++ joined (add_run b' n' (runs (drop (i + 1) rest))) ≡ start
-next_same out out' start b b' n n' i rest l e o p q so_far =
-    ap (λ text. text ++ joined (add_run b' n' (runs (drop (i + 1) rest)))) o ∙ ap (λ x. out ++ joined (add_run x n' (runs (drop (i + 1) rest)))) p ∙ ap (λ k. out ++ joined (add_run b k (runs (drop (i + 1) rest)))) q
-    ∙ same_byte out start b (get_or rest i 0) n i rest l refl e so_far
+-- the two cases as a loop has them, after the first of which nothing more is on the page
+module _ (a : Option (List ℕ)) (p text : List ℕ) (b : Option (List ℕ)) (q : List ℕ) (byte count i : ℕ) (rest : List ℕ) (l : i < length rest) (going : Going a p b q (joined (add_run byte count (runs (drop i rest)))) text) where
+  pub next_same : (b2 : Option (List ℕ)) (q2 : List ℕ) (byte2 count2 : ℕ) → get_or rest i 0 ≡ byte → b2 ≡ b → q2 ≡ q → byte2 ≡ byte → count2 ≡ count + 1 →
+      Going a p b2 q2 (joined (add_run byte2 count2 (runs (drop (i + 1) rest)))) text
+  next_same b2 q2 byte2 count2 same e f g h =
+      let now : joined (add_run byte count (runs (drop i rest))) ≡ joined (add_run byte2 count2 (runs (drop (i + 1) rest))) =
+      same_byte byte count i rest l same ∙ ap (λ x. joined (add_run x (count + 1) (runs (drop (i + 1) rest)))) (sym g) ∙ ap (λ n. joined (add_run byte2 n (runs (drop (i + 1) rest)))) (sym h) in
+      subst (λ o. Going a p o q2 (joined (add_run byte2 count2 (runs (drop (i + 1) rest)))) text) (sym e) (subst (λ zs. Going a p b zs (joined (add_run byte2 count2 (runs (drop (i + 1) rest)))) text) (sym f) (subst (λ zs. Going a p b q zs text) now going))
 
-pub next_other : (out out' start : List ℕ) (b b' n n' i : ℕ) (rest : List ℕ) → i < length rest → (get_or rest i 0 ≡ b → ⊥) →
-    out' ≡ (out ++ run_text (record { byte = b; count = n })) ++ codes "," → b' ≡ get_or rest i 0 → n' ≡ 1 →
-    out ++ joined (add_run b n (runs (drop i rest))) ≡ start →
-    out' ++ joined (add_run b' n' (runs (drop (i + 1) rest))) ≡ start
-next_other out out' start b b' n n' i rest l ne o p q so_far =
-    ap (λ x. out' ++ joined (add_run x n' (runs (drop (i + 1) rest)))) p ∙ ap (λ k. out' ++ joined (add_run (get_or rest i 0) k (runs (drop (i + 1) rest)))) q
-    ∙ other_byte out out' start b (get_or rest i 0) n i rest l refl ne o so_far
+  module _ (other : get_or rest i 0 ≡ byte → ⊥) (c : Option (List ℕ)) (r : List ℕ) where
+    -- a front of the run was put
+    pub run_cut : {T E : Type 0} (result : Result T E) → IsErr result → Stands false b q c r (run_text (of_byte byte count)) → Wrote result a p c r text
+    run_cut result failed s =
+        broke_off a p b q (run_text (of_byte byte count)) text _ (codes "," ++ joined (add_run (get_or rest i 0) 1 (runs (drop (i + 1) rest)))) result c r failed going
+        (other_byte byte count i rest l other ∙ append_assoc (run_text (of_byte byte count)) (codes ",") (joined (add_run (get_or rest i 0) 1 (runs (drop (i + 1) rest))))) s
+
+    module _ (run : Stands true b q c r (run_text (of_byte byte count))) (d : Option (List ℕ)) (t : List ℕ) where
+      -- or nothing of the comma behind it
+      pub comma_cut : {T E : Type 0} (result : Result T E) → IsErr result → Stands false c r d t (codes ",") → Wrote result a p d t text
+      comma_cut result failed s =
+          broke_off a p b q (run_text (of_byte byte count) ++ codes ",") text _ (joined (add_run (get_or rest i 0) 1 (runs (drop (i + 1) rest)))) result d t failed going (other_byte byte count i rest l other)
+          (behind b q false d t (run_text (of_byte byte count)) (codes ",") c r run s)
+
+      pub next_other : (b2 : Option (List ℕ)) (q2 : List ℕ) (byte2 count2 : ℕ) → Stands true c r d t (codes ",") → b2 ≡ d → q2 ≡ t → byte2 ≡ get_or rest i 0 → count2 ≡ 1 →
+          Going a p b2 q2 (joined (add_run byte2 count2 (runs (drop (i + 1) rest)))) text
+      next_other b2 q2 byte2 count2 comma e f g h =
+          let gone : Going a p d t (joined (add_run (get_or rest i 0) 1 (runs (drop (i + 1) rest)))) text =
+          one_more a p b q _ text going d t (run_text (of_byte byte count) ++ codes ",") _ (other_byte byte count i rest l other) (behind b q true d t (run_text (of_byte byte count)) (codes ",") c r run comma) in
+          let now : joined (add_run (get_or rest i 0) 1 (runs (drop (i + 1) rest))) ≡ joined (add_run byte2 count2 (runs (drop (i + 1) rest))) =
+          ap (λ x. joined (add_run x 1 (runs (drop (i + 1) rest)))) (sym g) ∙ ap (λ n. joined (add_run byte2 n (runs (drop (i + 1) rest)))) (sym h) in
+          subst (λ o. Going a p o q2 (joined (add_run byte2 count2 (runs (drop (i + 1) rest)))) text) (sym e) (subst (λ zs. Going a p d zs (joined (add_run byte2 count2 (runs (drop (i + 1) rest)))) text) (sym f) (subst (λ zs. Going a p d t zs text) now gone))
+
+-- the last run
+pub last_run : (a : Option (List ℕ)) (p text : List ℕ) (b : Option (List ℕ)) (q : List ℕ) (byte count i : ℕ) (rest : List ℕ) → length rest ≤ i → Going a p b q (joined (add_run byte count (runs (drop i rest)))) text →
+    (whole : Bool) (c : Option (List ℕ)) (r : List ℕ) → Stands whole b q c r (run_text (of_byte byte count)) → Stands whole a p c r text
+last_run a p text b q byte count i rest end going whole c r s =
+    let one : joined (add_run byte count (runs (drop i rest))) ≡ run_text (of_byte byte count) = ap (λ bytes. joined (add_run byte count (runs bytes))) (none_left rest i end) ∙ append-nil (run_text (of_byte byte count)) in
+    last_one a p b q (run_text (of_byte byte count)) text (subst (λ zs. Going a p b q zs text) one going) whole c r s

@@ -11,8 +11,9 @@ use Rattle.pipe_model.specs.declared.event.End.{End}
 use Rattle.pipe_model.specs.declared.event.Event.{Event}
 use Rattle.pipe_model.specs.declared.event.Event.TheVariants.{Open, Raw, Write, Read, Finish, Close, Abort, Await, Clc, Deliver, Complete, Swallow, Cut, Heal, Report, Move, Grow, Test, Trim}
 use Rattle.scene_text.specs.Spelling.{name_text}
+use Rattle.scene_text.specs.Fields.{two_numbers}
 use Rattle.scene_text.specs.HistoryText.{is_call_on, taken_by, handed_by, wrote_at, read_at, sums_text, socket_text}
-use Rattle.smcr_cli.specs.Shares.{caller, share_at, share_of, shares_of, wrote_in, read_in, shared_sums_text, shared_socket_text}
+use Rattle.smcr_cli.specs.Shares.{caller, share_at, share_of, shares_of, wrote_in, read_in, shared_sums_text, shared_end_text, shared_ends_text, shared_socket_text}
 
 at_most_one : (caller : Option End) (wrote read : ℕ) → length (share_at caller wrote read) ≤ 1
 at_most_one None wrote read = omega arith
@@ -71,12 +72,14 @@ module _ (x : Side) (s : ℕ) where
       omega arith
 
   sums_same : (history : List Entry) → shared_sums_text (shares_of history) x s ≡ sums_text history x s
+  unfolding two_numbers
   sums_same history =
       ap (λ (n : ℕ). codes " wrote " ++ (decimal n ++ (codes " read " ++ decimal (sum_by (read_in x s) (shares_of history))))) (wrote_same history)
       ∙ ap (λ (n : ℕ). codes " wrote " ++ (decimal (sum_by (wrote_at x s) history) ++ (codes " read " ++ decimal n))) (read_same history)
 
 module _ (names : List (List ℕ)) (history : List Entry) where
   same_socket : (s : ℕ) → shared_socket_text names (shares_of history) s ≡ socket_text names history s
+  unfolding shared_end_text shared_ends_text
   same_socket s =
       ap (λ (sums : List ℕ). codes "socket " ++ (name_text names s ++ (codes " A" ++ (sums ++ (codes " B" ++ (shared_sums_text (shares_of history) B s ++ codes "\n")))))) (sums_same A s history)
       ∙ ap (λ (sums : List ℕ). codes "socket " ++ (name_text names s ++ (codes " A" ++ (sums_text history A s ++ (codes " B" ++ (sums ++ codes "\n")))))) (sums_same B s history)

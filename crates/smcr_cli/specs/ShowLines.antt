@@ -20,6 +20,8 @@ use Rattle.llc_wire.specs.Llc.{llc_read}
 use Rattle.cdc_wire.specs.Cdc.{cdc_read}
 use Rattle.smcr_cli.specs.declared.show.Protocol.{Protocol}
 use Rattle.smcr_cli.specs.declared.show.Protocol.TheVariants.{Clc, Llc, Cdc}
+use Rattle.smcr_cli.specs.declared.show.Reading.{Reading}
+use Rattle.smcr_cli.specs.declared.show.Reading.TheVariants as readings
 use Rattle.smcr_cli.specs.declared.top.Status.TheVariants as statuses
 use Rattle.smcr_cli.specs.Answers.{Answer, refusal_text}
 use Rattle.smcr_cli.specs.ShowText.{clc_line, llc_line, cdc_line}
@@ -103,3 +105,9 @@ Leaves (Ok x) text wanted = wanted ≡ Ok text
 Leaves (Err NoMemory) text wanted = Unit {0}
 Leaves (Err (Bad kind)) text wanted = wanted ≡ Err kind
 Leaves (Err (Passes limit)) text wanted = ⊥
+
+-- the line of a message that was read, or of what is wrong with its bytes
+abbrev pub reading_text : Reading → List ℕ
+reading_text (readings.Clc read) = clc_line read
+reading_text (readings.Llc read) = llc_line read
+reading_text (readings.Cdc read) = cdc_line read

@@ -1,22 +1,24 @@
 -- What the program answers and writes.
 -- A reader learns here what each list of words and each input gets, and what stands in its place
 -- where memory, a read or a write fails.
-use Rattle.std.specs.Prelude.{◌≡◌, ℕ, nat_lt, if◌then◌else◌, List, [], ◌∷◌, length, codes, ◌⊎◌, Option, Some, None, Result, Ok, Err, take}
+use Rattle.std.specs.Prelude.{◌≡◌, ℕ, ◌≤◌, nat_lt, if◌then◌else◌, List, [], ◌∷◌, length, codes, ◌⊎◌, Option, Some, None, Result, Ok, Err, take}
 use Rattle.std.specs.Str.{bytes_eq}
+use Rattle.std.specs.Str.Lines.{lines}
 use Rattle.byte_port.specs.Causes.{Grew, IsRead}
+use Rattle.pipe_model.specs.declared.entry.Entry.{Entry}
 use Rattle.pipe_model.specs.declared.entry.StepFault.{StepFault}
 use Rattle.scene_text.specs.declared.faults.SceneFault.{SceneFault}
 use Rattle.scene_text.specs.Scenes.{PlainScene}
 use Rattle.scene_text.specs.Grammar.{scene_of}
-use Rattle.scene_text.specs.HistoryText.{history_text}
+use Rattle.scene_text.specs.HistoryText.{Printed, history_text}
 use Rattle.smcr_cli.specs.declared.top.Command.{Command}
 use Rattle.smcr_cli.specs.declared.top.Command.TheVariants.{Run, Show}
 use Rattle.smcr_cli.specs.declared.top.Status.{Status}
 use Rattle.smcr_cli.specs.declared.top.Status.TheVariants as statuses
 use Rattle.smcr_cli.specs.declared.top.TheConstants.{MOST_INPUT_BYTES}
-use Rattle.smcr_cli.specs.Answers.{Answer, refusal_text}
+use Rattle.smcr_cli.specs.Answers.{Answer, refusal_answer}
 use Rattle.smcr_cli.specs.Runs.{Ran, run_of}
-use Rattle.smcr_cli.specs.ShowLines.{show_answer}
+use Rattle.smcr_cli.specs.ShowLines.{after_lines, show_answer}
 
 -- the words without the first that is `--`
 abbrev pub without_dashes : List (List ℕ) → List (List ℕ)
@@ -44,17 +46,18 @@ abbrev pub status_of : Option StepFault → Status
 status_of None = statuses.Ok
 status_of (Some fault) = statuses.Spent
 
+-- the text of a history, and the status that goes with the step that stopped it
+abbrev pub history_answer : Printed → List Entry → Option StepFault → Answer
+history_answer p history stop = record { status = status_of stop; text = history_text p history stop }
+
 -- a scene that was run: the text of its history
 abbrev pub ran_answer : PlainScene → Ran → Answer
-ran_answer scene r = record {
-  status = status_of r.stop;
-  text = history_text (record { names = scene.names; actors = scene.actors; payload = r.world.payload; heard = r.world.heard }) r.world.history r.stop;
-}
+ran_answer scene r = history_answer (record { names = scene.names; actors = scene.actors; payload = r.world.payload; heard = r.world.heard }) r.world.history r.stop
 
 -- an input to `run`: the history of the scene that it is, or the first line that is refused
 abbrev pub scene_answer : Result PlainScene SceneFault → Answer
 scene_answer (Ok scene) = ran_answer scene (run_of scene)
-scene_answer (Err fault) = record { status = statuses.Refused; text = refusal_text fault }
+scene_answer (Err fault) = refusal_answer fault
 
 abbrev pub run_answer : List ℕ → Answer
 run_answer input = scene_answer (scene_of input)
@@ -97,3 +100,13 @@ Tells statuses.ReadFault words left old new = IsCommand words × (new ≡ old)
 Tells statuses.WriteFault words left old new = GivesUp words left old new
 Tells statuses.Spent words left old new = Gives statuses.Spent words left old new
 Tells statuses.TooLong words left old new = Gives statuses.TooLong words left old new
+
+-- What each status says where the words are a command.
+abbrev pub Serves : Status → Command → Option (List ℕ) → Option (List ℕ) → Option (List ℕ) → Type 0
+Serves status command left old new = (words : List (List ℕ)) → command_of words ≡ Some command → Tells status words left old new
+
+-- An input that a command takes to its end: it is not too long, each of its lines is one of the
+-- command's, and no step is refused.
+abbrev pub IsGood : Command → List ℕ → Type 0
+IsGood Run input = (length input ≤ MOST_INPUT_BYTES) × ((scene : PlainScene) × (scene_of input ≡ Ok scene) × ((run_of scene).stop ≡ None))
+IsGood Show input = (length input ≤ MOST_INPUT_BYTES) × ((text : List ℕ) × (after_lines 1 (lines input) [] ≡ Ok text))

@@ -1,62 +1,92 @@
-//! The fields of messages, appended to one buffer.
-ghost use Rattle.std.specs.Prelude.{◌≡◌, ◌++◌, OnOk};
+//! The fields of messages, by way of a page.
+ghost use Rattle.byte_port.specs.Causes.{HasCause};
+ghost use Rattle.byte_port.specs.Pages.{Wrote};
 ghost use Rattle.scene_text.specs.Fields.{number_field, two_numbers, flag_text, head_text, contact_text, cursor_text};
 
-use crate::spell::{push_number, push_text};
+use crate::spell::{put_number, put_text};
+use byte_port::{Failed, Page, Sink};
 use pipe_model::Cursor;
-use std::alloc::AllocError;
 
-/// Appends a word and a number.
-pub fn push_number_field(out: &mut Vec<u8>, word: &str, number: u64) -> Result<(), AllocError>
-    ensures { OnOk result (out.new.items ≡ out.old.items ++ number_field word.now number) }
+/// Puts a word and a number.
+#[tactic(auto, using(byte_port::proofs::Paging::pieces))]
+pub fn put_number_field<K: Sink>(
+    page: &mut Page,
+    sink: &mut K,
+    word: &str,
+    number: u64,
+) -> Result<(), Failed>
+    ensures wrote { Wrote result (K.held sink.old) page.old (K.held sink.new) page.new (number_field word.now number) }
+    ensures cause { HasCause (K.faults sink.old) (K.faults sink.new) result }
 {
-    push_text(out, word)?;
-    push_number(out, number)
+    put_text(page, sink, word)?;
+    put_number(page, sink, number)
 }
 
-/// Appends two words, each with its number.
-#[tactic(auto, unfolding(scene_text::specs::Fields::two_numbers))]
-pub fn push_two_numbers(
-    out: &mut Vec<u8>,
+/// Puts two words, each with its number.
+#[tactic(auto, using(byte_port::proofs::Paging::pieces), unfolding(scene_text::specs::Fields::two_numbers))]
+pub fn put_two_numbers<K: Sink>(
+    page: &mut Page,
+    sink: &mut K,
     word: &str,
     number: u64,
     second_word: &str,
     second: u64,
-) -> Result<(), AllocError>
-    ensures { OnOk result (out.new.items ≡ out.old.items ++ two_numbers word.now number second_word.now second) }
+) -> Result<(), Failed>
+    ensures wrote { Wrote result (K.held sink.old) page.old (K.held sink.new) page.new (two_numbers word.now number second_word.now second) }
+    ensures cause { HasCause (K.faults sink.old) (K.faults sink.new) result }
 {
-    push_number_field(out, word, number)?;
-    push_number_field(out, second_word, second)
+    put_number_field(page, sink, word, number)?;
+    put_number_field(page, sink, second_word, second)
 }
 
-/// Appends a word where its flag is set.
-pub fn push_flag(out: &mut Vec<u8>, word: &str, on: bool) -> Result<(), AllocError>
-    ensures { OnOk result (out.new.items ≡ out.old.items ++ flag_text word.now on) }
+/// Puts a word where its flag is set.
+#[tactic(auto, using(byte_port::proofs::Paging::pieces))]
+pub fn put_flag<K: Sink>(page: &mut Page, sink: &mut K, word: &str, on: bool) -> Result<(), Failed>
+    ensures wrote { Wrote result (K.held sink.old) page.old (K.held sink.new) page.new (flag_text word.now on) }
+    ensures cause { HasCause (K.faults sink.old) (K.faults sink.new) result }
 {
-    if on { push_text(out, word) } else { Ok(()) }
+    if on {
+        put_text(page, sink, word)
+    } else {
+        Ok(())
+    }
 }
 
-/// Appends a word, and whether the message is a reply.
-#[tactic(auto, unfolding(scene_text::specs::Fields::head_text))]
-pub fn push_head(out: &mut Vec<u8>, word: &str, reply: bool) -> Result<(), AllocError>
-    ensures { OnOk result (out.new.items ≡ out.old.items ++ head_text word.now reply) }
+/// Puts a word, and whether the message is a reply.
+#[tactic(auto, using(byte_port::proofs::Paging::pieces), unfolding(scene_text::specs::Fields::head_text))]
+pub fn put_head<K: Sink>(
+    page: &mut Page,
+    sink: &mut K,
+    word: &str,
+    reply: bool,
+) -> Result<(), Failed>
+    ensures wrote { Wrote result (K.held sink.old) page.old (K.held sink.new) page.new (head_text word.now reply) }
+    ensures cause { HasCause (K.faults sink.old) (K.faults sink.new) result }
 {
-    push_text(out, word)?;
-    push_flag(out, " reply", reply)
+    put_text(page, sink, word)?;
+    put_flag(page, sink, " reply", reply)
 }
 
-/// Appends whether a contact is the first.
-pub fn push_contact(out: &mut Vec<u8>, first: bool) -> Result<(), AllocError>
-    ensures { OnOk result (out.new.items ≡ out.old.items ++ contact_text first) }
+/// Puts whether a contact is the first.
+#[tactic(auto, using(byte_port::proofs::Paging::pieces))]
+pub fn put_contact<K: Sink>(page: &mut Page, sink: &mut K, first: bool) -> Result<(), Failed>
+    ensures wrote { Wrote result (K.held sink.old) page.old (K.held sink.new) page.new (contact_text first) }
+    ensures cause { HasCause (K.faults sink.old) (K.faults sink.new) result }
 {
-    push_text(out, if first { " first" } else { " later" })
+    put_text(page, sink, if first { " first" } else { " later" })
 }
 
-/// Appends a word and a cursor.
-#[tactic(auto, unfolding(scene_text::specs::Fields::cursor_text))]
-pub fn push_cursor(out: &mut Vec<u8>, word: &str, cursor: Cursor) -> Result<(), AllocError>
-    ensures { OnOk result (out.new.items ≡ out.old.items ++ cursor_text word.now cursor) }
+/// Puts a word and a cursor.
+#[tactic(auto, using(byte_port::proofs::Paging::pieces), unfolding(scene_text::specs::Fields::cursor_text))]
+pub fn put_cursor<K: Sink>(
+    page: &mut Page,
+    sink: &mut K,
+    word: &str,
+    cursor: Cursor,
+) -> Result<(), Failed>
+    ensures wrote { Wrote result (K.held sink.old) page.old (K.held sink.new) page.new (cursor_text word.now cursor) }
+    ensures cause { HasCause (K.faults sink.old) (K.faults sink.new) result }
 {
-    push_number_field(out, word, cursor.wrap as u64)?;
-    push_number_field(out, "/", cursor.count as u64)
+    put_number_field(page, sink, word, cursor.wrap as u64)?;
+    put_number_field(page, sink, "/", cursor.count as u64)
 }

@@ -1,14 +1,18 @@
-//! The printer: it appends the text of a history to one buffer.
+//! The printer: it puts the text of a history on a page.
 ghost use Rattle.std.specs.Prelude.{◌≡◌, ◌++◌, ◌+◌, ◌<◌, ◌≤◌, ◌^◌, ℕ, OnOk, IfOk, [], codes, length};
 ghost use Rattle.std.specs.List.{sum_by, flat_map};
 ghost use Rattle.std.specs.Fmt.{decimal};
+ghost use Rattle.byte_port.specs.Causes.{HasCause};
+ghost use Rattle.byte_port.specs.Pages.{Wrote};
 ghost use Rattle.scene_text.specs.HistoryText.{actor_text, who_text, what_text, entry_text, entries_text, socket_of, begins_socket, listed_with, listed_after, sockets_after, taken_by, handed_by, socket_text, end_line, history_text};
 ghost use Rattle.smcr_cli.specs.Prints.{names_of, printed};
-ghost use Rattle.smcr_cli.specs.Shares.{caller, share_of, shares_of, wrote_in, read_in, shared_sums_text, shared_socket_text};
+ghost use Rattle.smcr_cli.specs.Shares.{caller, share_of, shares_of, wrote_in, read_in, shared_sums_text, shared_end_text, shared_ends_text, shared_socket_text, IsListed};
 
-use crate::print_posts::push_posts;
-use crate::print_replies::push_reply;
-use crate::spell::{push_event, push_name, push_number, push_text};
+use crate::fields::put_two_numbers;
+use crate::print_posts::put_posts;
+use crate::print_replies::put_reply;
+use crate::spell::{put_event, put_name, put_number, put_text};
+use byte_port::{Failed, Page, Sink};
 use pipe_model::{End, Entry, Event, Reply, Side, StepFault};
 use std::alloc::{AllocError, Global};
 
@@ -21,57 +25,89 @@ pub struct Texts<'a> {
     pub heard: &'a [u8],
 }
 
-/// Appends the name of an actor.
-fn push_actor(out: &mut Vec<u8>, actors: &[String], actor: u32) -> Result<(), AllocError>
-    ensures { OnOk result (out.new.items ≡ out.old.items ++ actor_text (names_of actors.now) actor) }
+/// Puts the name of an actor.
+#[tactic(auto, using(byte_port::proofs::Paging::pieces))]
+fn put_actor<K: Sink>(
+    page: &mut Page,
+    sink: &mut K,
+    actors: &[String],
+    actor: u32,
+) -> Result<(), Failed>
+    ensures wrote { Wrote result (K.held sink.old) page.old (K.held sink.new) page.new (actor_text (names_of actors.now) actor) }
+    ensures cause { HasCause (K.faults sink.old) (K.faults sink.new) result }
 {
     if actor == 0 {
-        push_text(out, "main")
+        put_text(page, sink, "main")
     } else {
-        push_name(out, actors, actor - 1)
+        put_name(page, sink, actors, actor - 1)
     }
 }
 
-/// Appends the number of an entry and the name of its actor.
-fn push_who(out: &mut Vec<u8>, actors: &[String], number: u64, actor: u32) -> Result<(), AllocError>
-    ensures { OnOk result (out.new.items ≡ out.old.items ++ who_text (names_of actors.now) number actor) }
+/// Puts the number of an entry and the name of its actor.
+#[tactic(auto, using(byte_port::proofs::Paging::pieces))]
+fn put_who<K: Sink>(
+    page: &mut Page,
+    sink: &mut K,
+    actors: &[String],
+    number: u64,
+    actor: u32,
+) -> Result<(), Failed>
+    ensures wrote { Wrote result (K.held sink.old) page.old (K.held sink.new) page.new (who_text (names_of actors.now) number actor) }
+    ensures cause { HasCause (K.faults sink.old) (K.faults sink.new) result }
 {
-    push_number(out, number)?;
-    push_text(out, " ")?;
-    push_actor(out, actors, actor)?;
-    push_text(out, " ")
+    put_number(page, sink, number)?;
+    put_text(page, sink, " ")?;
+    put_actor(page, sink, actors, actor)?;
+    put_text(page, sink, " ")
 }
 
-/// Appends an event and its reply.
-fn push_what(out: &mut Vec<u8>, texts: &Texts<'_>, entry: &Entry) -> Result<(), AllocError>
-    ensures { OnOk result (out.new.items ≡ out.old.items ++ what_text (printed texts.now) entry.now) }
+/// Puts an event and its reply.
+#[tactic(auto, using(byte_port::proofs::Paging::pieces))]
+fn put_what<K: Sink>(
+    page: &mut Page,
+    sink: &mut K,
+    texts: &Texts<'_>,
+    entry: &Entry,
+) -> Result<(), Failed>
+    ensures wrote { Wrote result (K.held sink.old) page.old (K.held sink.new) page.new (what_text (printed texts.now) entry.now) }
+    ensures cause { HasCause (K.faults sink.old) (K.faults sink.new) result }
 {
-    push_event(out, texts.names, texts.payload, entry.event)?;
-    push_text(out, ": ")?;
-    push_reply(out, texts.heard, entry.reply)?;
-    push_text(out, "\n")
+    put_event(page, sink, texts.names, texts.payload, entry.event)?;
+    put_text(page, sink, ": ")?;
+    put_reply(page, sink, texts.heard, entry.reply)?;
+    put_text(page, sink, "\n")
 }
 
-/// Appends the line of an entry, and one for each of its posts.
-pub fn push_entry(
-    out: &mut Vec<u8>,
+/// Puts the line of an entry, and one for each of its posts.
+#[tactic(auto, using(byte_port::proofs::Paging::pieces))]
+pub fn put_entry<K: Sink>(
+    page: &mut Page,
+    sink: &mut K,
     texts: &Texts<'_>,
     number: u64,
     entry: &Entry,
-) -> Result<(), AllocError>
-    ensures { OnOk result (out.new.items ≡ out.old.items ++ entry_text (printed texts.now) number entry.now) }
+) -> Result<(), Failed>
+    ensures wrote { Wrote result (K.held sink.old) page.old (K.held sink.new) page.new (entry_text (printed texts.now) number entry.now) }
+    ensures cause { HasCause (K.faults sink.old) (K.faults sink.new) result }
 {
-    push_who(out, texts.actors, number, entry.actor)?;
-    push_what(out, texts, entry)?;
-    push_posts(out, texts.names, entry.posts.as_slice())
+    put_who(page, sink, texts.actors, number, entry.actor)?;
+    put_what(page, sink, texts, entry)?;
+    put_posts(page, sink, texts.names, entry.posts.as_slice())
 }
 
-/// Appends the lines of all entries.
-fn push_entries(out: &mut Vec<u8>, texts: &Texts<'_>, history: &[Entry]) -> Result<(), AllocError>
-    ensures { OnOk result (out.new.items ≡ out.old.items ++ entries_text (printed texts.now) 1 history.now) }
+/// Puts the lines of all entries.
+#[tactic(auto, using(byte_port::proofs::Paging::pieces))]
+fn put_entries<K: Sink>(
+    page: &mut Page,
+    sink: &mut K,
+    texts: &Texts<'_>,
+    history: &[Entry],
+) -> Result<(), Failed>
+    ensures wrote { Wrote result (K.held sink.old) page.old (K.held sink.new) page.new (entries_text (printed texts.now) 1 history.now) }
+    ensures cause { HasCause (K.faults sink.old) (K.faults sink.new) result }
 {
     for (index, entry) in history.iter().enumerate() {
-        push_entry(out, texts, index as u64 + 1, entry)?;
+        put_entry(page, sink, texts, index as u64 + 1, entry)?;
     }
     Ok(())
 }
@@ -235,104 +271,179 @@ fn read_in_all(side: Side, s: u32, shares: &[Share]) -> u64
     shares.iter().map(|share| read(side, s, share) as u64).sum()
 }
 
-/// Appends what an end wrote and read in all.
-fn push_sums(out: &mut Vec<u8>, shares: &[Share], side: Side, s: u32) -> Result<(), AllocError>
+/// Puts what an end wrote and read in all.
+#[tactic(auto, using(byte_port::proofs::Paging::pieces))]
+fn put_sums<K: Sink>(
+    page: &mut Page,
+    sink: &mut K,
+    shares: &[Share],
+    side: Side,
+    s: u32,
+) -> Result<(), Failed>
     requires { length shares.now < 2 ^ 32 }
-    ensures { OnOk result (out.new.items ≡ out.old.items ++ shared_sums_text shares.now side s) }
+    ensures wrote { Wrote result (K.held sink.old) page.old (K.held sink.new) page.new (shared_sums_text shares.now side s) }
+    ensures cause { HasCause (K.faults sink.old) (K.faults sink.new) result }
 {
-    push_text(out, " wrote ")?;
-    push_number(out, wrote_in_all(side, s, shares))?;
-    push_text(out, " read ")?;
-    push_number(out, read_in_all(side, s, shares))
+    let wrote = wrote_in_all(side, s, shares);
+    let read = read_in_all(side, s, shares);
+    put_two_numbers(page, sink, " wrote ", wrote, " read ", read)
 }
 
-/// Appends the line of a socket: its name, and the sums of its ends.
-fn push_socket(
-    out: &mut Vec<u8>,
+/// Puts the letter of an end, and what it wrote and read in all.
+#[tactic(auto, using(byte_port::proofs::Paging::pieces), unfolding(crate::specs::Shares::shared_end_text))]
+fn put_end_sums<K: Sink>(
+    page: &mut Page,
+    sink: &mut K,
+    word: &str,
+    shares: &[Share],
+    side: Side,
+    s: u32,
+) -> Result<(), Failed>
+    requires { length shares.now < 2 ^ 32 }
+    ensures wrote { Wrote result (K.held sink.old) page.old (K.held sink.new) page.new (shared_end_text word.now shares.now side s) }
+    ensures cause { HasCause (K.faults sink.old) (K.faults sink.new) result }
+{
+    put_text(page, sink, word)?;
+    put_sums(page, sink, shares, side, s)
+}
+
+/// Puts the sums of both ends of a socket, and ends its line.
+#[tactic(auto, using(byte_port::proofs::Paging::pieces), unfolding(crate::specs::Shares::shared_ends_text))]
+fn put_both_sums<K: Sink>(
+    page: &mut Page,
+    sink: &mut K,
+    shares: &[Share],
+    s: u32,
+) -> Result<(), Failed>
+    requires { length shares.now < 2 ^ 32 }
+    ensures wrote { Wrote result (K.held sink.old) page.old (K.held sink.new) page.new (shared_ends_text shares.now s) }
+    ensures cause { HasCause (K.faults sink.old) (K.faults sink.new) result }
+{
+    put_end_sums(page, sink, " A", shares, Side::A, s)?;
+    put_end_sums(page, sink, " B", shares, Side::B, s)?;
+    put_text(page, sink, "\n")
+}
+
+/// Puts the line of a socket: its name, and the sums of its ends.
+#[tactic(auto, using(byte_port::proofs::Paging::pieces))]
+fn put_socket<K: Sink>(
+    page: &mut Page,
+    sink: &mut K,
     names: &[String],
     shares: &[Share],
     s: u32,
-) -> Result<(), AllocError>
+) -> Result<(), Failed>
     requires { length shares.now < 2 ^ 32 }
-    ensures { OnOk result (out.new.items ≡ out.old.items ++ shared_socket_text (names_of names.now) shares.now s) }
+    ensures wrote { Wrote result (K.held sink.old) page.old (K.held sink.new) page.new (shared_socket_text (names_of names.now) shares.now s) }
+    ensures cause { HasCause (K.faults sink.old) (K.faults sink.new) result }
 {
-    push_text(out, "socket ")?;
-    push_name(out, names, s)?;
-    push_text(out, " A")?;
-    push_sums(out, shares, Side::A, s)?;
-    push_text(out, " B")?;
-    push_sums(out, shares, Side::B, s)?;
-    push_text(out, "\n")
+    put_text(page, sink, "socket ")?;
+    put_name(page, sink, names, s)?;
+    put_both_sums(page, sink, shares, s)
 }
 
-/// Appends the lines of sockets.
-fn push_sockets(
-    out: &mut Vec<u8>,
+/// Puts the lines of sockets.
+#[tactic(auto, using(byte_port::proofs::Paging::pieces))]
+fn put_sockets<K: Sink>(
+    page: &mut Page,
+    sink: &mut K,
     names: &[String],
     shares: &[Share],
     sockets: &[u32],
-) -> Result<(), AllocError>
+) -> Result<(), Failed>
     requires { length shares.now < 2 ^ 32 }
-    ensures { OnOk result (out.new.items ≡ out.old.items ++ flat_map (shared_socket_text (names_of names.now) shares.now) sockets.now) }
+    ensures wrote { Wrote result (K.held sink.old) page.old (K.held sink.new) page.new (flat_map (shared_socket_text (names_of names.now) shares.now) sockets.now) }
+    ensures cause { HasCause (K.faults sink.old) (K.faults sink.new) result }
 {
     for s in sockets {
-        push_socket(out, names, shares, *s)?;
+        put_socket(page, sink, names, shares, *s)?;
     }
     Ok(())
 }
 
-/// Appends a line of a text and a number.
-fn push_count(out: &mut Vec<u8>, text: &str, count: u64) -> Result<(), AllocError>
-    ensures { OnOk result (out.new.items ≡ out.old.items ++ (text.now ++ (decimal count ++ codes "\n"))) }
+/// Puts a line of a text and a number.
+#[tactic(auto, using(byte_port::proofs::Paging::pieces))]
+fn put_count<K: Sink>(page: &mut Page, sink: &mut K, text: &str, count: u64) -> Result<(), Failed>
+    ensures wrote { Wrote result (K.held sink.old) page.old (K.held sink.new) page.new (text.now ++ (decimal count ++ codes "\n")) }
+    ensures cause { HasCause (K.faults sink.old) (K.faults sink.new) result }
 {
-    push_text(out, text)?;
-    push_number(out, count)?;
-    push_text(out, "\n")
+    put_text(page, sink, text)?;
+    put_number(page, sink, count)?;
+    put_text(page, sink, "\n")
 }
 
-/// Appends the last line: how the run ended.
-fn push_end_line(
-    out: &mut Vec<u8>,
+/// Puts the last line: how the run ended.
+#[tactic(auto, using(byte_port::proofs::Paging::pieces))]
+fn put_end_line<K: Sink>(
+    page: &mut Page,
+    sink: &mut K,
     entries: usize,
     stop: Option<StepFault>,
-) -> Result<(), AllocError>
-    ensures { OnOk result (out.new.items ≡ out.old.items ++ end_line entries stop) }
+) -> Result<(), Failed>
+    ensures wrote { Wrote result (K.held sink.old) page.old (K.held sink.new) page.new (end_line entries stop) }
+    ensures cause { HasCause (K.faults sink.old) (K.faults sink.new) result }
 {
     match stop {
-        None => push_count(out, "ok ", entries as u64),
-        Some(StepFault::Spent { entries }) => push_count(out, "spent entries ", entries as u64),
-        Some(StepFault::BytesSpent { bytes }) => push_count(out, "spent bytes ", bytes as u64),
+        None => put_count(page, sink, "ok ", entries as u64),
+        Some(StepFault::Spent { entries }) => {
+            put_count(page, sink, "spent entries ", entries as u64)
+        }
+        Some(StepFault::BytesSpent { bytes }) => {
+            put_count(page, sink, "spent bytes ", bytes as u64)
+        }
     }
 }
 
-/// Appends the lines of all sockets that a history has.
-#[tactic(auto, using(crate::proofs::Shares::few_shares, crate::proofs::Shares::same_sockets))]
-fn push_all_sockets(
-    alloc: Global,
-    out: &mut Vec<u8>,
-    names: &[String],
-    history: &[Entry],
-) -> Result<(), AllocError>
-    requires { length history.now < 2 ^ 32 }
-    ensures { OnOk result (out.new.items ≡ out.old.items ++ flat_map (socket_text (names_of names.now) history.now) (sockets_after [] history.now)) }
+/// The sockets of a history in their order, and the shares of their ends: what the lines of sockets
+/// need, and all that takes memory in a history's text.
+#[derive(Drop)]
+pub struct Listed {
+    pub sockets: Vec<u32>,
+    pub shares: Vec<Share>,
+}
+
+/// Lists the sockets of a history and the shares of their ends.
+pub fn list_all(alloc: Global, history: &[Entry]) -> Result<Listed, AllocError>
+    ensures { IfOk result (λ listed. IsListed listed history.now) }
 {
     let sockets = list_sockets(alloc, history)?;
     let shares = list_shares(alloc, history)?;
-    push_sockets(out, names, &shares, &sockets)
+    Ok(Listed { sockets, shares })
 }
 
-/// Appends the text of a history: its entries, its sockets, how it ended.
-pub fn push_history(
-    alloc: Global,
-    out: &mut Vec<u8>,
+/// Puts the lines of all sockets that a history has.
+#[tactic(auto, using(byte_port::proofs::Paging::pieces, crate::proofs::Shares::few_shares, crate::proofs::Shares::same_sockets))]
+fn put_all_sockets<K: Sink>(
+    page: &mut Page,
+    sink: &mut K,
+    names: &[String],
+    history: &[Entry],
+    listed: &Listed,
+) -> Result<(), Failed>
+    requires few { length history.now < 2 ^ 32 }
+    requires listed { IsListed listed.now history.now }
+    ensures wrote { Wrote result (K.held sink.old) page.old (K.held sink.new) page.new (flat_map (socket_text (names_of names.now) history.now) (sockets_after [] history.now)) }
+    ensures cause { HasCause (K.faults sink.old) (K.faults sink.new) result }
+{
+    put_sockets(page, sink, names, &listed.shares, &listed.sockets)
+}
+
+/// Puts the text of a history: its entries, its sockets, how it ended.
+#[tactic(auto, using(byte_port::proofs::Paging::pieces))]
+pub fn put_history<K: Sink>(
+    page: &mut Page,
+    sink: &mut K,
     texts: &Texts<'_>,
     history: &[Entry],
+    listed: &Listed,
     stop: Option<StepFault>,
-) -> Result<(), AllocError>
-    requires { length history.now < 2 ^ 32 }
-    ensures { OnOk result (out.new.items ≡ out.old.items ++ history_text (printed texts.now) history.now stop) }
+) -> Result<(), Failed>
+    requires few { length history.now < 2 ^ 32 }
+    requires listed { IsListed listed.now history.now }
+    ensures wrote { Wrote result (K.held sink.old) page.old (K.held sink.new) page.new (history_text (printed texts.now) history.now stop) }
+    ensures cause { HasCause (K.faults sink.old) (K.faults sink.new) result }
 {
-    push_entries(out, texts, history)?;
-    push_all_sockets(alloc, out, texts.names, history)?;
-    push_end_line(out, history.len(), stop)
+    put_entries(page, sink, texts, history)?;
+    put_all_sockets(page, sink, texts.names, history, listed)?;
+    put_end_line(page, sink, history.len(), stop)
 }

@@ -1,23 +1,32 @@
-//! The texts of replies, appended to one buffer.
-ghost use Rattle.std.specs.Prelude.{◌≡◌, ◌++◌, OnOk};
+//! The texts of replies, by way of a page.
+ghost use Rattle.std.specs.Prelude.{◌≡◌, ◌++◌, codes};
+ghost use Rattle.byte_port.specs.Causes.{HasCause};
+ghost use Rattle.byte_port.specs.Pages.{Wrote};
+ghost use Rattle.scene_text.specs.Spelling.{bytes_text, payload_part};
 ghost use Rattle.scene_text.specs.ReplyText.{fault_text, kind_text, hold_text, yes_text, lack_text, cause_text, place_text, reply_text};
 
-use crate::fields::{push_number_field, push_two_numbers};
-use crate::spell::{push_number, push_part, push_text};
+use crate::fields::{put_number_field, put_two_numbers};
+use crate::spell::{put_number, put_part, put_text};
+use byte_port::{Failed, Page, Sink};
 use pipe_model::{ClcFault, Hold, Lack, PostRef, Reply, ResetCause, SentKind};
-use std::alloc::AllocError;
 
-/// Appends what is wrong with the bytes of a CLC message.
-pub fn push_fault(out: &mut Vec<u8>, fault: ClcFault) -> Result<(), AllocError>
-    ensures { OnOk result (out.new.items ≡ out.old.items ++ fault_text fault) }
+/// Puts what is wrong with the bytes of a CLC message.
+pub fn put_fault<K: Sink>(page: &mut Page, sink: &mut K, fault: ClcFault) -> Result<(), Failed>
+    ensures wrote { Wrote result (K.held sink.old) page.old (K.held sink.new) page.new (fault_text fault) }
+    ensures cause { HasCause (K.faults sink.old) (K.faults sink.new) result }
 {
     match fault {
-        ClcFault::Short => push_text(out, "short"),
-        ClcFault::BadEye { place } => push_number_field(out, "bad eye ", place as u64),
-        ClcFault::BadType { value } => push_number_field(out, "bad type ", value as u64),
-        ClcFault::BadLength { value } => push_number_field(out, "bad length ", value as u64),
-        ClcFault::BadVersion { value } => push_number_field(out, "bad version ", value as u64),
-        ClcFault::BadTrailer => push_text(out, "bad trailer"),
+        ClcFault::Short => put_text(page, sink, "short"),
+        ClcFault::BadEye { place } => put_number_field(page, sink, "bad eye ", place as u64),
+        ClcFault::BadType { value } => put_number_field(page, sink, "bad type ", value as u64),
+        ClcFault::BadLength { value } => put_number_field(page, sink, "bad length ", value as u64),
+        ClcFault::BadVersion { value } => put_number_field(
+            page,
+            sink,
+            "bad version ",
+            value as u64,
+        ),
+        ClcFault::BadTrailer => put_text(page, sink, "bad trailer"),
     }
 }
 
@@ -52,118 +61,195 @@ fn hold_word(hold: Hold) -> &'static str
     }
 }
 
-/// Appends whether a side is capable.
-fn push_yes(out: &mut Vec<u8>, capable: bool) -> Result<(), AllocError>
-    ensures { OnOk result (out.new.items ≡ out.old.items ++ yes_text capable) }
+/// Puts whether a side is capable.
+fn put_yes<K: Sink>(page: &mut Page, sink: &mut K, capable: bool) -> Result<(), Failed>
+    ensures wrote { Wrote result (K.held sink.old) page.old (K.held sink.new) page.new (yes_text capable) }
+    ensures cause { HasCause (K.faults sink.old) (K.faults sink.new) result }
 {
-    push_text(out, if capable { " yes" } else { " no" })
+    put_text(page, sink, if capable { " yes" } else { " no" })
 }
 
-/// Appends what a side lacks for SMC-R.
-fn push_lack(out: &mut Vec<u8>, lack: Lack) -> Result<(), AllocError>
-    ensures { OnOk result (out.new.items ≡ out.old.items ++ lack_text lack) }
+/// Puts which side is not capable.
+#[tactic(auto, using(byte_port::proofs::Paging::pieces))]
+fn put_not_capable<K: Sink>(page: &mut Page, sink: &mut K, a: bool, b: bool) -> Result<(), Failed>
+    ensures wrote { Wrote result (K.held sink.old) page.old (K.held sink.new) page.new (codes "not capable" ++ (yes_text a ++ yes_text b)) }
+    ensures cause { HasCause (K.faults sink.old) (K.faults sink.new) result }
+{
+    put_text(page, sink, "not capable")?;
+    put_yes(page, sink, a)?;
+    put_yes(page, sink, b)
+}
+
+/// Puts what a side lacks for SMC-R.
+fn put_lack<K: Sink>(page: &mut Page, sink: &mut K, lack: Lack) -> Result<(), Failed>
+    ensures wrote { Wrote result (K.held sink.old) page.old (K.held sink.new) page.new (lack_text lack) }
+    ensures cause { HasCause (K.faults sink.old) (K.faults sink.new) result }
 {
     match lack {
-        Lack::NotCapable { a, b } => {
-            push_text(out, "not capable")?;
-            push_yes(out, a)?;
-            push_yes(out, b)
-        }
-        Lack::NoSubnet => push_text(out, "no common subnet"),
+        Lack::NotCapable { a, b } => put_not_capable(page, sink, a, b),
+        Lack::NoSubnet => put_text(page, sink, "no common subnet"),
         Lack::NoServerElement { elements } => {
-            push_number_field(out, "no server element ", elements as u64)
+            put_number_field(page, sink, "no server element ", elements as u64)
         }
-        Lack::Raw => push_text(out, "raw"),
-        Lack::NoSlot { links } => push_number_field(out, "no usable slot ", links as u64),
+        Lack::Raw => put_text(page, sink, "raw"),
+        Lack::NoSlot { links } => put_number_field(page, sink, "no usable slot ", links as u64),
         Lack::GroupLost { named, stands } => {
-            push_two_numbers(out, "group lost ", named as u64, " ", stands as u64)
+            put_two_numbers(page, sink, "group lost ", named as u64, " ", stands as u64)
         }
         Lack::NoClientElement { elements } => {
-            push_number_field(out, "no client element ", elements as u64)
+            put_number_field(page, sink, "no client element ", elements as u64)
         }
     }
 }
 
-/// Appends why a connection was reset.
-fn push_cause(out: &mut Vec<u8>, cause: ResetCause) -> Result<(), AllocError>
-    ensures { OnOk result (out.new.items ≡ out.old.items ++ cause_text cause) }
+/// Puts that a message had a fault.
+#[tactic(auto, using(byte_port::proofs::Paging::pieces))]
+fn put_bad_message<K: Sink>(page: &mut Page, sink: &mut K, fault: ClcFault) -> Result<(), Failed>
+    ensures wrote { Wrote result (K.held sink.old) page.old (K.held sink.new) page.new (codes "bad message " ++ fault_text fault) }
+    ensures cause { HasCause (K.faults sink.old) (K.faults sink.new) result }
+{
+    put_text(page, sink, "bad message ")?;
+    put_fault(page, sink, fault)
+}
+
+/// Puts a word, and the word of a message.
+#[tactic(auto, using(byte_port::proofs::Paging::pieces))]
+fn put_kind<K: Sink>(
+    page: &mut Page,
+    sink: &mut K,
+    word: &str,
+    kind: SentKind,
+) -> Result<(), Failed>
+    ensures wrote { Wrote result (K.held sink.old) page.old (K.held sink.new) page.new (word.now ++ kind_text kind) }
+    ensures cause { HasCause (K.faults sink.old) (K.faults sink.new) result }
+{
+    put_text(page, sink, word)?;
+    put_text(page, sink, kind_word(kind))
+}
+
+/// Puts why a connection was reset.
+fn put_cause<K: Sink>(page: &mut Page, sink: &mut K, cause: ResetCause) -> Result<(), Failed>
+    ensures wrote { Wrote result (K.held sink.old) page.old (K.held sink.new) page.new (cause_text cause) }
+    ensures cause { HasCause (K.faults sink.old) (K.faults sink.new) result }
 {
     match cause {
-        ResetCause::OwnAbort => push_text(out, "own abort"),
-        ResetCause::PeerAbort => push_text(out, "peer abort"),
-        ResetCause::NoLiveLink { group } => push_number_field(out, "no live link ", group as u64),
+        ResetCause::OwnAbort => put_text(page, sink, "own abort"),
+        ResetCause::PeerAbort => put_text(page, sink, "peer abort"),
+        ResetCause::NoLiveLink { group } => put_number_field(
+            page,
+            sink,
+            "no live link ",
+            group as u64,
+        ),
         ResetCause::Gap { told, taken } => {
-            push_two_numbers(out, "gap ", told as u64, " ", taken as u64)
+            put_two_numbers(page, sink, "gap ", told as u64, " ", taken as u64)
         }
-        ResetCause::BadClc(fault) => {
-            push_text(out, "bad message ")?;
-            push_fault(out, fault)
-        }
-        ResetCause::BadStep(kind) => {
-            push_text(out, "bad step ")?;
-            push_text(out, kind_word(kind))
-        }
+        ResetCause::BadClc(fault) => put_bad_message(page, sink, fault),
+        ResetCause::BadStep(kind) => put_kind(page, sink, "bad step ", kind),
     }
 }
 
-/// Appends the place of a post in the history.
-fn push_place(out: &mut Vec<u8>, at: PostRef) -> Result<(), AllocError>
-    ensures { OnOk result (out.new.items ≡ out.old.items ++ place_text at) }
+/// Puts the place of a post in the history.
+#[tactic(auto, using(byte_port::proofs::Paging::pieces))]
+fn put_place<K: Sink>(page: &mut Page, sink: &mut K, at: PostRef) -> Result<(), Failed>
+    ensures wrote { Wrote result (K.held sink.old) page.old (K.held sink.new) page.new (place_text at) }
+    ensures cause { HasCause (K.faults sink.old) (K.faults sink.new) result }
 {
-    push_number(out, at.entry as u64)?;
-    push_number_field(out, ".", at.post as u64)
+    put_number(page, sink, at.entry as u64)?;
+    put_number_field(page, sink, ".", at.post as u64)
 }
 
-/// Appends a reply; `heard` is all that was handed out.
-pub fn push_reply(out: &mut Vec<u8>, heard: &[u8], reply: Reply) -> Result<(), AllocError>
-    ensures { OnOk result (out.new.items ≡ out.old.items ++ reply_text heard.now reply) }
+/// Puts a word and the place of a post.
+#[tactic(auto, using(byte_port::proofs::Paging::pieces))]
+fn put_placed<K: Sink>(page: &mut Page, sink: &mut K, word: &str, at: PostRef) -> Result<(), Failed>
+    ensures wrote { Wrote result (K.held sink.old) page.old (K.held sink.new) page.new (word.now ++ place_text at) }
+    ensures cause { HasCause (K.faults sink.old) (K.faults sink.new) result }
+{
+    put_text(page, sink, word)?;
+    put_place(page, sink, at)
+}
+
+/// Puts bytes that were handed out.
+#[tactic(auto, using(byte_port::proofs::Paging::pieces))]
+fn put_data<K: Sink>(
+    page: &mut Page,
+    sink: &mut K,
+    heard: &[u8],
+    from: u32,
+    len: u32,
+) -> Result<(), Failed>
+    ensures wrote { Wrote result (K.held sink.old) page.old (K.held sink.new) page.new (codes "data " ++ bytes_text (payload_part heard.now from len)) }
+    ensures cause { HasCause (K.faults sink.old) (K.faults sink.new) result }
+{
+    put_text(page, sink, "data ")?;
+    put_part(page, sink, heard, from, len)
+}
+
+/// Puts that a connection was reset, and why.
+#[tactic(auto, using(byte_port::proofs::Paging::pieces))]
+fn put_reset<K: Sink>(page: &mut Page, sink: &mut K, cause: ResetCause) -> Result<(), Failed>
+    ensures wrote { Wrote result (K.held sink.old) page.old (K.held sink.new) page.new (codes "reset " ++ cause_text cause) }
+    ensures cause { HasCause (K.faults sink.old) (K.faults sink.new) result }
+{
+    put_text(page, sink, "reset ")?;
+    put_cause(page, sink, cause)
+}
+
+/// Puts that a request is held, and what it waits for.
+#[tactic(auto, using(byte_port::proofs::Paging::pieces))]
+fn put_held<K: Sink>(page: &mut Page, sink: &mut K, hold: Hold) -> Result<(), Failed>
+    ensures wrote { Wrote result (K.held sink.old) page.old (K.held sink.new) page.new (codes "held " ++ hold_text hold) }
+    ensures cause { HasCause (K.faults sink.old) (K.faults sink.new) result }
+{
+    put_text(page, sink, "held ")?;
+    put_text(page, sink, hold_word(hold))
+}
+
+/// Puts that a peer was declined, and what is lacking.
+#[tactic(auto, using(byte_port::proofs::Paging::pieces))]
+fn put_declined<K: Sink>(page: &mut Page, sink: &mut K, lack: Lack) -> Result<(), Failed>
+    ensures wrote { Wrote result (K.held sink.old) page.old (K.held sink.new) page.new (codes "declined " ++ lack_text lack) }
+    ensures cause { HasCause (K.faults sink.old) (K.faults sink.new) result }
+{
+    put_text(page, sink, "declined ")?;
+    put_lack(page, sink, lack)
+}
+
+/// Puts a reply; `heard` is all that was handed out.
+pub fn put_reply<K: Sink>(
+    page: &mut Page,
+    sink: &mut K,
+    heard: &[u8],
+    reply: Reply,
+) -> Result<(), Failed>
+    ensures wrote { Wrote result (K.held sink.old) page.old (K.held sink.new) page.new (reply_text heard.now reply) }
+    ensures cause { HasCause (K.faults sink.old) (K.faults sink.new) result }
 {
     match reply {
-        Reply::Opened => push_text(out, "opened"),
-        Reply::NameUsed => push_text(out, "name used"),
-        Reply::NoSocket => push_text(out, "no socket"),
-        Reply::Wrote(n) => push_number_field(out, "wrote ", n as u64),
-        Reply::Full => push_text(out, "full"),
-        Reply::Bytes { from, len } => {
-            push_text(out, "data ")?;
-            push_part(out, heard, from, len)
-        }
-        Reply::Empty => push_text(out, "empty"),
-        Reply::End => push_text(out, "end"),
-        Reply::NotYet => push_text(out, "not yet"),
-        Reply::Ended => push_text(out, "ended"),
-        Reply::Done => push_text(out, "done"),
-        Reply::Idle => push_text(out, "idle"),
-        Reply::Reset(cause) => {
-            push_text(out, "reset ")?;
-            push_cause(out, cause)
-        }
-        Reply::Established => push_text(out, "established"),
-        Reply::FellBack => push_text(out, "fell back"),
-        Reply::Held(hold) => {
-            push_text(out, "held ")?;
-            push_text(out, hold_word(hold))
-        }
-        Reply::Sent(kind) => {
-            push_text(out, "sent ")?;
-            push_text(out, kind_word(kind))
-        }
-        Reply::Declined(lack) => {
-            push_text(out, "declined ")?;
-            push_lack(out, lack)
-        }
-        Reply::Landed(at) => {
-            push_text(out, "landed ")?;
-            push_place(out, at)
-        }
-        Reply::Completed(at) => {
-            push_text(out, "completed ")?;
-            push_place(out, at)
-        }
-        Reply::Dropped(token) => push_number_field(out, "dropped ", token as u64),
+        Reply::Opened => put_text(page, sink, "opened"),
+        Reply::NameUsed => put_text(page, sink, "name used"),
+        Reply::NoSocket => put_text(page, sink, "no socket"),
+        Reply::Wrote(n) => put_number_field(page, sink, "wrote ", n as u64),
+        Reply::Full => put_text(page, sink, "full"),
+        Reply::Bytes { from, len } => put_data(page, sink, heard, from, len),
+        Reply::Empty => put_text(page, sink, "empty"),
+        Reply::End => put_text(page, sink, "end"),
+        Reply::NotYet => put_text(page, sink, "not yet"),
+        Reply::Ended => put_text(page, sink, "ended"),
+        Reply::Done => put_text(page, sink, "done"),
+        Reply::Idle => put_text(page, sink, "idle"),
+        Reply::Reset(cause) => put_reset(page, sink, cause),
+        Reply::Established => put_text(page, sink, "established"),
+        Reply::FellBack => put_text(page, sink, "fell back"),
+        Reply::Held(hold) => put_held(page, sink, hold),
+        Reply::Sent(kind) => put_kind(page, sink, "sent ", kind),
+        Reply::Declined(lack) => put_declined(page, sink, lack),
+        Reply::Landed(at) => put_placed(page, sink, "landed ", at),
+        Reply::Completed(at) => put_placed(page, sink, "completed ", at),
+        Reply::Dropped(token) => put_number_field(page, sink, "dropped ", token as u64),
         Reply::Moved { from, to } => {
-            push_two_numbers(out, "moved ", from as u64, " ", to as u64)
+            put_two_numbers(page, sink, "moved ", from as u64, " ", to as u64)
         }
-        Reply::GroupEnded(group) => push_number_field(out, "group ended ", group as u64),
+        Reply::GroupEnded(group) => put_number_field(page, sink, "group ended ", group as u64),
     }
 }

@@ -1,6 +1,7 @@
 //! The printer by its tables: each reply, and each kind of post.
-use crate::print_posts::push_posts;
-use crate::print_replies::push_reply;
+use crate::print_posts::put_posts;
+use crate::print_replies::put_reply;
+use byte_port::{MemorySink, Page};
 use pipe_model::{
     CdcMessage, ClcFault, ClcMessage, Cursor, Hold, KeyToken, Lack, LinkId, LlcMessage, NewKey,
     Offer, Post, PostRef, Proposal, Refusal, Reply, ResetCause, SentKind, Side,
@@ -149,17 +150,30 @@ const GID: [u8; 16] = [0; 16];
 
 const PEER: [u8; 8] = [0; 8];
 
-/// Appends a table of replies, a line each, and tells whether it is the texts of the table.
+/// An empty page, and a sink with much room.
+fn page_and_sink(rt: &HostRuntime) -> Result<(Page, MemorySink), Fail> {
+    let Ok(page) = Page::new(rt.alloc()) else {
+        return Err(Fail::new("no memory"));
+    };
+    let Ok(sink) = MemorySink::new(rt.alloc(), 10_000, Vec::new(rt.alloc())) else {
+        return Err(Fail::new("no memory"));
+    };
+    Ok((page, sink))
+}
+
+/// Puts a table of replies, a line each, and tells whether it is the texts of the table.
 fn are_told(rt: &HostRuntime, rows: &[(Reply, &'static str)]) -> Result<bool, Fail> {
-    let mut text = Vec::new(rt.alloc());
+    let (mut page, mut sink) = page_and_sink(rt)?;
     let mut want = Vec::new(rt.alloc());
+    let mut is_put = true;
     for (reply, told) in rows {
-        push_reply(&mut text, HEARD, *reply)?;
-        text.push(b'\n')?;
+        is_put = is_put && put_reply(&mut page, &mut sink, HEARD, *reply).is_ok();
+        is_put = is_put && page.put(&mut sink, b"\n").is_ok();
         want.extend_from_slice(told.as_bytes())?;
         want.push(b'\n')?;
     }
-    Ok(text == want)
+    is_put = is_put && page.flush(&mut sink).is_ok();
+    Ok(is_put && sink.held() == want.as_slice())
 }
 
 /// Every reply, with each of its causes.
@@ -177,9 +191,10 @@ fn are_printed(rt: &HostRuntime, posts: &[Post], lines: &str) -> Result<bool, Fa
     let mut names = Vec::new(rt.alloc());
     names.push(String::from_str(rt.alloc(), "s")?)?;
     names.push(String::from_str(rt.alloc(), "t")?)?;
-    let mut text = Vec::new(rt.alloc());
-    push_posts(&mut text, &names, posts)?;
-    Ok(text.as_slice() == lines.as_bytes())
+    let (mut page, mut sink) = page_and_sink(rt)?;
+    let mut is_put = put_posts(&mut page, &mut sink, &names, posts).is_ok();
+    is_put = is_put && page.flush(&mut sink).is_ok();
+    Ok(is_put && sink.held() == lines.as_bytes())
 }
 
 fn cdc(from: Side, number: u16, told: u32, producer: u8, state: u8) -> Post {

@@ -1,117 +1,181 @@
-//! The texts of messages, appended to one buffer.
-ghost use Rattle.std.specs.Prelude.{◌≡◌, ◌++◌, OnOk};
+//! The texts of messages, by way of a page.
+ghost use Rattle.std.specs.Prelude.{◌++◌, ◌/◌, ◌%◌, codes};
 ghost use Rattle.std.specs.List.{flat_map};
+ghost use Rattle.byte_port.specs.Causes.{HasCause};
+ghost use Rattle.byte_port.specs.Pages.{Wrote};
+ghost use Rattle.scene_text.specs.Fields.{number_field, two_numbers, flag_text, head_text, cursor_text};
 ghost use Rattle.smcr_cli.specs.ShowText.{hex_text, hex_field, byte_field, two_flags, port_text, peer_text, address_text, subnet_text, proposal_text, element_text, buffer_text, offer_text, synch_text, decline_text, clc_text, clc_fault_text, link_text, rejected_text, new_key_text, key_text, token_text, tokens_text, keys_text, llc_text, llc_fault_text, cdc_text, cdc_fault_text};
 
 use crate::fields::{
-    push_contact, push_cursor, push_flag, push_head, push_number_field, push_two_numbers,
+    put_contact, put_cursor, put_flag, put_head, put_number_field, put_two_numbers,
 };
-use crate::print_replies::push_fault;
-use crate::spell::{push_hex, push_number, push_text};
+use crate::print_replies::put_fault;
+use crate::spell::{put_hex, put_number, put_text};
+use byte_port::{Failed, Page, Sink};
 use cdc_wire::{CdcFault, CdcMessage};
 use clc_wire::{ClcFault, ClcMessage, Offer, Proposal, Refusal};
 use llc_wire::{KeyToken, LlcFault, LlcMessage, NewKey};
-use std::alloc::AllocError;
 
-/// Appends bytes in hexadecimal digits.
-fn push_hex_bytes(out: &mut Vec<u8>, bytes: &[u8]) -> Result<(), AllocError>
-    ensures { OnOk result (out.new.items ≡ out.old.items ++ hex_text bytes.now) }
+/// Puts bytes in hexadecimal digits.
+#[tactic(auto, using(byte_port::proofs::Paging::pieces))]
+fn put_hex_bytes<K: Sink>(page: &mut Page, sink: &mut K, bytes: &[u8]) -> Result<(), Failed>
+    ensures wrote { Wrote result (K.held sink.old) page.old (K.held sink.new) page.new (hex_text bytes.now) }
+    ensures cause { HasCause (K.faults sink.old) (K.faults sink.new) result }
 {
     for byte in bytes {
-        push_hex(out, *byte)?;
+        put_hex(page, sink, *byte)?;
     }
     Ok(())
 }
 
-/// Appends a word and bytes.
-fn push_hex_field(out: &mut Vec<u8>, word: &str, bytes: &[u8]) -> Result<(), AllocError>
-    ensures { OnOk result (out.new.items ≡ out.old.items ++ hex_field word.now bytes.now) }
+/// Puts a word and bytes.
+#[tactic(auto, using(byte_port::proofs::Paging::pieces))]
+fn put_hex_field<K: Sink>(
+    page: &mut Page,
+    sink: &mut K,
+    word: &str,
+    bytes: &[u8],
+) -> Result<(), Failed>
+    ensures wrote { Wrote result (K.held sink.old) page.old (K.held sink.new) page.new (hex_field word.now bytes.now) }
+    ensures cause { HasCause (K.faults sink.old) (K.faults sink.new) result }
 {
-    push_text(out, word)?;
-    push_hex_bytes(out, bytes)
+    put_text(page, sink, word)?;
+    put_hex_bytes(page, sink, bytes)
 }
 
-/// Appends a word and a byte.
-fn push_byte_field(out: &mut Vec<u8>, word: &str, byte: u8) -> Result<(), AllocError>
-    ensures { OnOk result (out.new.items ≡ out.old.items ++ byte_field word.now byte) }
+/// Puts a word and a byte.
+#[tactic(auto, using(byte_port::proofs::Paging::pieces))]
+fn put_byte_field<K: Sink>(
+    page: &mut Page,
+    sink: &mut K,
+    word: &str,
+    byte: u8,
+) -> Result<(), Failed>
+    ensures wrote { Wrote result (K.held sink.old) page.old (K.held sink.new) page.new (byte_field word.now byte) }
+    ensures cause { HasCause (K.faults sink.old) (K.faults sink.new) result }
 {
-    push_text(out, word)?;
-    push_hex(out, byte)
+    put_text(page, sink, word)?;
+    put_hex(page, sink, byte)
 }
 
-/// Appends two words, each where its flag is set.
-#[tactic(auto, unfolding(crate::specs::ShowText::two_flags))]
-fn push_two_flags(
-    out: &mut Vec<u8>,
+/// Puts two words, each where its flag is set.
+#[tactic(auto, using(byte_port::proofs::Paging::pieces), unfolding(crate::specs::ShowText::two_flags))]
+fn put_two_flags<K: Sink>(
+    page: &mut Page,
+    sink: &mut K,
     word: &str,
     on: bool,
     second_word: &str,
     second: bool,
-) -> Result<(), AllocError>
-    ensures { OnOk result (out.new.items ≡ out.old.items ++ two_flags word.now on second_word.now second) }
+) -> Result<(), Failed>
+    ensures wrote { Wrote result (K.held sink.old) page.old (K.held sink.new) page.new (two_flags word.now on second_word.now second) }
+    ensures cause { HasCause (K.faults sink.old) (K.faults sink.new) result }
 {
-    push_flag(out, word, on)?;
-    push_flag(out, second_word, second)
+    put_flag(page, sink, word, on)?;
+    put_flag(page, sink, second_word, second)
 }
 
-/// Appends a MAC and a GID.
-#[tactic(auto, unfolding(crate::specs::ShowText::port_text))]
-fn push_port(out: &mut Vec<u8>, mac: &[u8], gid: &[u8]) -> Result<(), AllocError>
-    ensures { OnOk result (out.new.items ≡ out.old.items ++ port_text mac.now gid.now) }
+/// Puts a MAC and a GID.
+#[tactic(auto, using(byte_port::proofs::Paging::pieces), unfolding(crate::specs::ShowText::port_text))]
+fn put_port<K: Sink>(page: &mut Page, sink: &mut K, mac: &[u8], gid: &[u8]) -> Result<(), Failed>
+    ensures wrote { Wrote result (K.held sink.old) page.old (K.held sink.new) page.new (port_text mac.now gid.now) }
+    ensures cause { HasCause (K.faults sink.old) (K.faults sink.new) result }
 {
-    push_hex_field(out, " mac ", mac)?;
-    push_hex_field(out, " gid ", gid)
+    put_hex_field(page, sink, " mac ", mac)?;
+    put_hex_field(page, sink, " gid ", gid)
 }
 
-/// Appends a peer's id, GID and MAC.
-#[tactic(auto, unfolding(crate::specs::ShowText::peer_text))]
-fn push_peer(out: &mut Vec<u8>, peer: &[u8], gid: &[u8], mac: &[u8]) -> Result<(), AllocError>
-    ensures { OnOk result (out.new.items ≡ out.old.items ++ peer_text peer.now gid.now mac.now) }
+/// Puts a peer's id, GID and MAC.
+#[tactic(auto, using(byte_port::proofs::Paging::pieces), unfolding(crate::specs::ShowText::peer_text))]
+fn put_peer<K: Sink>(
+    page: &mut Page,
+    sink: &mut K,
+    peer: &[u8],
+    gid: &[u8],
+    mac: &[u8],
+) -> Result<(), Failed>
+    ensures wrote { Wrote result (K.held sink.old) page.old (K.held sink.new) page.new (peer_text peer.now gid.now mac.now) }
+    ensures cause { HasCause (K.faults sink.old) (K.faults sink.new) result }
 {
-    push_hex_field(out, " peer ", peer)?;
-    push_hex_field(out, " gid ", gid)?;
-    push_hex_field(out, " mac ", mac)
+    put_hex_field(page, sink, " peer ", peer)?;
+    put_hex_field(page, sink, " gid ", gid)?;
+    put_hex_field(page, sink, " mac ", mac)
 }
 
-/// Appends an IPv4 address.
-#[tactic(auto, unfolding(crate::specs::ShowText::address_text))]
-fn push_address(out: &mut Vec<u8>, address: u32) -> Result<(), AllocError>
-    ensures { OnOk result (out.new.items ≡ out.old.items ++ address_text address) }
+/// Puts the two last bytes of an IPv4 address.
+#[tactic(auto, using(byte_port::proofs::Paging::pieces))]
+fn put_address_end<K: Sink>(page: &mut Page, sink: &mut K, address: u32) -> Result<(), Failed>
+    ensures wrote { Wrote result (K.held sink.old) page.old (K.held sink.new) page.new (number_field (codes ".") (address / 256 % 256) ++ number_field (codes ".") (address % 256)) }
+    ensures cause { HasCause (K.faults sink.old) (K.faults sink.new) result }
 {
-    push_number(out, (address / 16_777_216) as u64)?;
-    push_number_field(out, ".", (address / 65_536 % 256) as u64)?;
-    push_number_field(out, ".", (address / 256 % 256) as u64)?;
-    push_number_field(out, ".", (address % 256) as u64)
+    put_number_field(page, sink, ".", (address / 256 % 256) as u64)?;
+    put_number_field(page, sink, ".", (address % 256) as u64)
 }
 
-/// Appends a subnet.
-#[tactic(auto, unfolding(crate::specs::ShowText::subnet_text))]
-fn push_subnet(out: &mut Vec<u8>, subnet: u32, prefix: u8) -> Result<(), AllocError>
-    ensures { OnOk result (out.new.items ≡ out.old.items ++ subnet_text subnet prefix) }
+/// Puts an IPv4 address.
+#[tactic(auto, using(byte_port::proofs::Paging::pieces), unfolding(crate::specs::ShowText::address_text))]
+fn put_address<K: Sink>(page: &mut Page, sink: &mut K, address: u32) -> Result<(), Failed>
+    ensures wrote { Wrote result (K.held sink.old) page.old (K.held sink.new) page.new (address_text address) }
+    ensures cause { HasCause (K.faults sink.old) (K.faults sink.new) result }
 {
-    push_text(out, " subnet ")?;
-    push_address(out, subnet)?;
-    push_number_field(out, "/", prefix as u64)
+    put_number(page, sink, (address / 16_777_216) as u64)?;
+    put_number_field(page, sink, ".", (address / 65_536 % 256) as u64)?;
+    put_address_end(page, sink, address)
 }
 
-/// Appends a Proposal.
-fn push_proposal(out: &mut Vec<u8>, proposal: &Proposal) -> Result<(), AllocError>
-    ensures { OnOk result (out.new.items ≡ out.old.items ++ proposal_text proposal.now) }
+/// Puts a subnet.
+#[tactic(auto, using(byte_port::proofs::Paging::pieces), unfolding(crate::specs::ShowText::subnet_text))]
+fn put_subnet<K: Sink>(page: &mut Page, sink: &mut K, subnet: u32, prefix: u8) -> Result<(), Failed>
+    ensures wrote { Wrote result (K.held sink.old) page.old (K.held sink.new) page.new (subnet_text subnet prefix) }
+    ensures cause { HasCause (K.faults sink.old) (K.faults sink.new) result }
 {
-    push_text(out, "proposal")?;
-    push_peer(out, &proposal.peer, &proposal.gid, &proposal.mac)?;
-    push_subnet(out, proposal.subnet, proposal.prefix)?;
-    push_number_field(out, " prefixes ", proposal.v6 as u64)
+    put_text(page, sink, " subnet ")?;
+    put_address(page, sink, subnet)?;
+    put_number_field(page, sink, "/", prefix as u64)
 }
 
-/// Appends the queue pair and the element of an offer.
-#[tactic(auto, unfolding(crate::specs::ShowText::element_text))]
-fn push_element(out: &mut Vec<u8>, offer: &Offer) -> Result<(), AllocError>
-    ensures { OnOk result (out.new.items ≡ out.old.items ++ element_text offer.now) }
+/// Puts the peer and the subnets of a Proposal.
+#[tactic(auto, using(byte_port::proofs::Paging::pieces))]
+fn put_proposal_fields<K: Sink>(
+    page: &mut Page,
+    sink: &mut K,
+    proposal: &Proposal,
+) -> Result<(), Failed>
+    ensures wrote { Wrote result (K.held sink.old) page.old (K.held sink.new) page.new (peer_text proposal.now.peer proposal.now.gid proposal.now.mac ++ (subnet_text proposal.now.subnet proposal.now.prefix ++ number_field (codes " prefixes ") proposal.now.v6)) }
+    ensures cause { HasCause (K.faults sink.old) (K.faults sink.new) result }
 {
-    push_two_numbers(out, " qp ", offer.qp as u64, " key ", offer.key as u64)?;
-    push_two_numbers(
-        out,
+    put_peer(page, sink, &proposal.peer, &proposal.gid, &proposal.mac)?;
+    put_subnet(page, sink, proposal.subnet, proposal.prefix)?;
+    put_number_field(page, sink, " prefixes ", proposal.v6 as u64)
+}
+
+/// Puts a Proposal.
+#[tactic(auto, using(byte_port::proofs::Paging::pieces))]
+fn put_proposal<K: Sink>(page: &mut Page, sink: &mut K, proposal: &Proposal) -> Result<(), Failed>
+    ensures wrote { Wrote result (K.held sink.old) page.old (K.held sink.new) page.new (proposal_text proposal.now) }
+    ensures cause { HasCause (K.faults sink.old) (K.faults sink.new) result }
+{
+    put_text(page, sink, "proposal")?;
+    put_proposal_fields(page, sink, proposal)
+}
+
+/// Puts the queue pair and the element of an offer.
+#[tactic(auto, using(byte_port::proofs::Paging::pieces), unfolding(crate::specs::ShowText::element_text))]
+fn put_element<K: Sink>(page: &mut Page, sink: &mut K, offer: &Offer) -> Result<(), Failed>
+    ensures wrote { Wrote result (K.held sink.old) page.old (K.held sink.new) page.new (element_text offer.now) }
+    ensures cause { HasCause (K.faults sink.old) (K.faults sink.new) result }
+{
+    put_two_numbers(
+        page,
+        sink,
+        " qp ",
+        offer.qp as u64,
+        " key ",
+        offer.key as u64,
+    )?;
+    put_two_numbers(
+        page,
+        sink,
         " index ",
         offer.index as u64,
         " token ",
@@ -119,154 +183,386 @@ fn push_element(out: &mut Vec<u8>, offer: &Offer) -> Result<(), AllocError>
     )
 }
 
-/// Appends the sizes and places of an offer.
-#[tactic(auto, unfolding(crate::specs::ShowText::buffer_text))]
-fn push_buffer(out: &mut Vec<u8>, offer: &Offer) -> Result<(), AllocError>
-    ensures { OnOk result (out.new.items ≡ out.old.items ++ buffer_text offer.now) }
+/// Puts the sizes and places of an offer.
+#[tactic(auto, using(byte_port::proofs::Paging::pieces), unfolding(crate::specs::ShowText::buffer_text))]
+fn put_buffer<K: Sink>(page: &mut Page, sink: &mut K, offer: &Offer) -> Result<(), Failed>
+    ensures wrote { Wrote result (K.held sink.old) page.old (K.held sink.new) page.new (buffer_text offer.now) }
+    ensures cause { HasCause (K.faults sink.old) (K.faults sink.new) result }
 {
-    push_two_numbers(out, " size ", offer.size as u64, " mtu ", offer.mtu as u64)?;
-    push_two_numbers(out, " at ", offer.address, " psn ", offer.psn as u64)
+    put_two_numbers(
+        page,
+        sink,
+        " size ",
+        offer.size as u64,
+        " mtu ",
+        offer.mtu as u64,
+    )?;
+    put_two_numbers(page, sink, " at ", offer.address, " psn ", offer.psn as u64)
 }
 
-/// Appends an Accept or a Confirm.
-fn push_offer(out: &mut Vec<u8>, word: &str, offer: &Offer) -> Result<(), AllocError>
-    ensures { OnOk result (out.new.items ≡ out.old.items ++ offer_text word.now offer.now) }
+/// Puts the peer, the element and the sizes of an offer.
+#[tactic(auto, using(byte_port::proofs::Paging::pieces))]
+fn put_offer_fields<K: Sink>(page: &mut Page, sink: &mut K, offer: &Offer) -> Result<(), Failed>
+    ensures wrote { Wrote result (K.held sink.old) page.old (K.held sink.new) page.new (peer_text offer.now.peer offer.now.gid offer.now.mac ++ (element_text offer.now ++ buffer_text offer.now)) }
+    ensures cause { HasCause (K.faults sink.old) (K.faults sink.new) result }
 {
-    push_text(out, word)?;
-    push_contact(out, offer.first)?;
-    push_peer(out, &offer.peer, &offer.gid, &offer.mac)?;
-    push_element(out, offer)?;
-    push_buffer(out, offer)
+    put_peer(page, sink, &offer.peer, &offer.gid, &offer.mac)?;
+    put_element(page, sink, offer)?;
+    put_buffer(page, sink, offer)
 }
 
-/// Appends whether two peers are out of synch.
-fn push_synch(out: &mut Vec<u8>, is_out: bool) -> Result<(), AllocError>
-    ensures { OnOk result (out.new.items ≡ out.old.items ++ synch_text is_out) }
+/// Puts an Accept or a Confirm.
+#[tactic(auto, using(byte_port::proofs::Paging::pieces))]
+fn put_offer<K: Sink>(
+    page: &mut Page,
+    sink: &mut K,
+    word: &str,
+    offer: &Offer,
+) -> Result<(), Failed>
+    ensures wrote { Wrote result (K.held sink.old) page.old (K.held sink.new) page.new (offer_text word.now offer.now) }
+    ensures cause { HasCause (K.faults sink.old) (K.faults sink.new) result }
 {
-    push_text(out, if is_out { " out" } else { " synch" })
+    put_text(page, sink, word)?;
+    put_contact(page, sink, offer.first)?;
+    put_offer_fields(page, sink, offer)
 }
 
-/// Appends a Decline.
-fn push_decline(out: &mut Vec<u8>, refusal: &Refusal) -> Result<(), AllocError>
-    ensures { OnOk result (out.new.items ≡ out.old.items ++ decline_text refusal.now) }
+/// Puts whether two peers are out of synch.
+#[tactic(auto, using(byte_port::proofs::Paging::pieces))]
+fn put_synch<K: Sink>(page: &mut Page, sink: &mut K, is_out: bool) -> Result<(), Failed>
+    ensures wrote { Wrote result (K.held sink.old) page.old (K.held sink.new) page.new (synch_text is_out) }
+    ensures cause { HasCause (K.faults sink.old) (K.faults sink.new) result }
 {
-    push_text(out, "decline")?;
-    push_synch(out, refusal.out)?;
-    push_hex_field(out, " peer ", &refusal.peer)?;
-    push_number_field(out, " diagnosis ", refusal.diagnosis as u64)
+    put_text(page, sink, if is_out { " out" } else { " synch" })
 }
 
-/// Appends a CLC message.
-pub fn push_clc(out: &mut Vec<u8>, message: &ClcMessage) -> Result<(), AllocError>
-    ensures { OnOk result (out.new.items ≡ out.old.items ++ clc_text message.now) }
+/// Puts the peer and the diagnosis of a Decline.
+#[tactic(auto, using(byte_port::proofs::Paging::pieces))]
+fn put_refusal_fields<K: Sink>(
+    page: &mut Page,
+    sink: &mut K,
+    refusal: &Refusal,
+) -> Result<(), Failed>
+    ensures wrote { Wrote result (K.held sink.old) page.old (K.held sink.new) page.new (hex_field (codes " peer ") refusal.now.peer ++ number_field (codes " diagnosis ") refusal.now.diagnosis) }
+    ensures cause { HasCause (K.faults sink.old) (K.faults sink.new) result }
+{
+    put_hex_field(page, sink, " peer ", &refusal.peer)?;
+    put_number_field(page, sink, " diagnosis ", refusal.diagnosis as u64)
+}
+
+/// Puts a Decline.
+#[tactic(auto, using(byte_port::proofs::Paging::pieces))]
+fn put_decline<K: Sink>(page: &mut Page, sink: &mut K, refusal: &Refusal) -> Result<(), Failed>
+    ensures wrote { Wrote result (K.held sink.old) page.old (K.held sink.new) page.new (decline_text refusal.now) }
+    ensures cause { HasCause (K.faults sink.old) (K.faults sink.new) result }
+{
+    put_text(page, sink, "decline")?;
+    put_synch(page, sink, refusal.out)?;
+    put_refusal_fields(page, sink, refusal)
+}
+
+/// Puts a CLC message.
+#[tactic(auto, using(byte_port::proofs::Paging::pieces))]
+pub fn put_clc<K: Sink>(page: &mut Page, sink: &mut K, message: &ClcMessage) -> Result<(), Failed>
+    ensures wrote { Wrote result (K.held sink.old) page.old (K.held sink.new) page.new (clc_text message.now) }
+    ensures cause { HasCause (K.faults sink.old) (K.faults sink.new) result }
 {
     match message {
-        ClcMessage::Proposal(proposal) => push_proposal(out, proposal),
-        ClcMessage::Accept(offer) => push_offer(out, "accept", offer),
-        ClcMessage::Confirm(offer) => push_offer(out, "confirm", offer),
-        ClcMessage::Decline(refusal) => push_decline(out, refusal),
+        ClcMessage::Proposal(proposal) => put_proposal(page, sink, proposal),
+        ClcMessage::Accept(offer) => put_offer(page, sink, "accept", offer),
+        ClcMessage::Confirm(offer) => put_offer(page, sink, "confirm", offer),
+        ClcMessage::Decline(refusal) => put_decline(page, sink, refusal),
     }
 }
 
-/// Appends what is wrong with the bytes of a CLC message.
-pub fn push_clc_fault(out: &mut Vec<u8>, fault: ClcFault) -> Result<(), AllocError>
-    ensures { OnOk result (out.new.items ≡ out.old.items ++ clc_fault_text fault) }
+/// Puts what is wrong with the bytes of a CLC message.
+#[tactic(auto, using(byte_port::proofs::Paging::pieces))]
+pub fn put_clc_fault<K: Sink>(page: &mut Page, sink: &mut K, fault: ClcFault) -> Result<(), Failed>
+    ensures wrote { Wrote result (K.held sink.old) page.old (K.held sink.new) page.new (clc_fault_text fault) }
+    ensures cause { HasCause (K.faults sink.old) (K.faults sink.new) result }
 {
-    push_text(out, "fault ")?;
-    push_fault(out, fault)
+    put_text(page, sink, "fault ")?;
+    put_fault(page, sink, fault)
 }
 
-/// Appends one end of a link.
-#[tactic(auto, unfolding(crate::specs::ShowText::link_text))]
-fn push_link(out: &mut Vec<u8>, mac: &[u8], gid: &[u8], qp: u32, link: u8) -> Result<(), AllocError>
-    ensures { OnOk result (out.new.items ≡ out.old.items ++ link_text mac.now gid.now qp link) }
+/// Puts one end of a link.
+#[tactic(auto, using(byte_port::proofs::Paging::pieces), unfolding(crate::specs::ShowText::link_text))]
+fn put_link<K: Sink>(
+    page: &mut Page,
+    sink: &mut K,
+    mac: &[u8],
+    gid: &[u8],
+    qp: u32,
+    link: u8,
+) -> Result<(), Failed>
+    ensures wrote { Wrote result (K.held sink.old) page.old (K.held sink.new) page.new (link_text mac.now gid.now qp link) }
+    ensures cause { HasCause (K.faults sink.old) (K.faults sink.new) result }
 {
-    push_port(out, mac, gid)?;
-    push_two_numbers(out, " qp ", qp as u64, " link ", link as u64)
+    put_port(page, sink, mac, gid)?;
+    put_two_numbers(page, sink, " qp ", qp as u64, " link ", link as u64)
 }
 
-/// Appends the reason of an offer that is rejected.
-fn push_rejected(out: &mut Vec<u8>, rejected: bool, reason: u8) -> Result<(), AllocError>
-    ensures { OnOk result (out.new.items ≡ out.old.items ++ rejected_text rejected reason) }
+/// Puts the reason of an offer that is rejected.
+#[tactic(auto, using(byte_port::proofs::Paging::pieces))]
+fn put_rejected<K: Sink>(
+    page: &mut Page,
+    sink: &mut K,
+    rejected: bool,
+    reason: u8,
+) -> Result<(), Failed>
+    ensures wrote { Wrote result (K.held sink.old) page.old (K.held sink.new) page.new (rejected_text rejected reason) }
+    ensures cause { HasCause (K.faults sink.old) (K.faults sink.new) result }
 {
     if rejected {
-        push_number_field(out, " rejected ", reason as u64)
+        put_number_field(page, sink, " rejected ", reason as u64)
     } else {
         Ok(())
     }
 }
 
-/// Appends a key for a new link.
-fn push_new_key(out: &mut Vec<u8>, key: &NewKey) -> Result<(), AllocError>
-    ensures { OnOk result (out.new.items ≡ out.old.items ++ new_key_text key.now) }
+/// Puts a key for a new link.
+#[tactic(auto, using(byte_port::proofs::Paging::pieces))]
+fn put_new_key<K: Sink>(page: &mut Page, sink: &mut K, key: &NewKey) -> Result<(), Failed>
+    ensures wrote { Wrote result (K.held sink.old) page.old (K.held sink.new) page.new (new_key_text key.now) }
+    ensures cause { HasCause (K.faults sink.old) (K.faults sink.new) result }
 {
-    push_number_field(out, " ", key.reference as u64)?;
-    push_number_field(out, "=", key.fresh as u64)?;
-    push_number_field(out, "@", key.address)
+    put_number_field(page, sink, " ", key.reference as u64)?;
+    put_number_field(page, sink, "=", key.fresh as u64)?;
+    put_number_field(page, sink, "@", key.address)
 }
 
-/// Appends keys for a new link.
-fn push_new_keys(out: &mut Vec<u8>, keys: &[NewKey]) -> Result<(), AllocError>
-    ensures { OnOk result (out.new.items ≡ out.old.items ++ flat_map new_key_text keys.now) }
+/// Puts keys for a new link.
+#[tactic(auto, using(byte_port::proofs::Paging::pieces))]
+fn put_new_keys<K: Sink>(page: &mut Page, sink: &mut K, keys: &[NewKey]) -> Result<(), Failed>
+    ensures wrote { Wrote result (K.held sink.old) page.old (K.held sink.new) page.new (flat_map new_key_text keys.now) }
+    ensures cause { HasCause (K.faults sink.old) (K.faults sink.new) result }
 {
     for key in keys {
-        push_new_key(out, key)?;
+        put_new_key(page, sink, key)?;
     }
     Ok(())
 }
 
-/// Appends a key and its address.
-fn push_key(out: &mut Vec<u8>, mark: &str, token: &KeyToken) -> Result<(), AllocError>
-    ensures { OnOk result (out.new.items ≡ out.old.items ++ key_text mark.now token.now) }
+/// Puts a key and its address.
+#[tactic(auto, using(byte_port::proofs::Paging::pieces))]
+fn put_key<K: Sink>(
+    page: &mut Page,
+    sink: &mut K,
+    mark: &str,
+    token: &KeyToken,
+) -> Result<(), Failed>
+    ensures wrote { Wrote result (K.held sink.old) page.old (K.held sink.new) page.new (key_text mark.now token.now) }
+    ensures cause { HasCause (K.faults sink.old) (K.faults sink.new) result }
 {
-    push_number_field(out, mark, token.key as u64)?;
-    push_number_field(out, "@", token.address)
+    put_number_field(page, sink, mark, token.key as u64)?;
+    put_number_field(page, sink, "@", token.address)
 }
 
-/// Appends a key for the link of a number.
-fn push_token(out: &mut Vec<u8>, token: &KeyToken) -> Result<(), AllocError>
-    ensures { OnOk result (out.new.items ≡ out.old.items ++ token_text token.now) }
+/// Puts a key for the link of a number.
+#[tactic(auto, using(byte_port::proofs::Paging::pieces))]
+fn put_token<K: Sink>(page: &mut Page, sink: &mut K, token: &KeyToken) -> Result<(), Failed>
+    ensures wrote { Wrote result (K.held sink.old) page.old (K.held sink.new) page.new (token_text token.now) }
+    ensures cause { HasCause (K.faults sink.old) (K.faults sink.new) result }
 {
-    push_number_field(out, " ", token.number as u64)?;
-    push_key(out, "=", token)
+    put_number_field(page, sink, " ", token.number as u64)?;
+    put_key(page, sink, "=", token)
 }
 
-/// Appends keys for links.
-fn push_other_tokens(out: &mut Vec<u8>, tokens: &[KeyToken]) -> Result<(), AllocError>
-    ensures { OnOk result (out.new.items ≡ out.old.items ++ flat_map token_text tokens.now) }
+/// Puts keys for links.
+#[tactic(auto, using(byte_port::proofs::Paging::pieces))]
+fn put_other_tokens<K: Sink>(
+    page: &mut Page,
+    sink: &mut K,
+    tokens: &[KeyToken],
+) -> Result<(), Failed>
+    ensures wrote { Wrote result (K.held sink.old) page.old (K.held sink.new) page.new (flat_map token_text tokens.now) }
+    ensures cause { HasCause (K.faults sink.old) (K.faults sink.new) result }
 {
     for token in tokens {
-        push_token(out, token)?;
+        put_token(page, sink, token)?;
     }
     Ok(())
 }
 
-/// Appends the tokens of a message, of which the first has no number.
-fn push_tokens(out: &mut Vec<u8>, tokens: &[KeyToken]) -> Result<(), AllocError>
-    ensures { OnOk result (out.new.items ≡ out.old.items ++ tokens_text tokens.now) }
+/// Puts the first token of a message, without a number, and those behind it.
+#[tactic(auto, using(byte_port::proofs::Paging::pieces))]
+fn put_first_tokens<K: Sink>(
+    page: &mut Page,
+    sink: &mut K,
+    first: &KeyToken,
+    others: &[KeyToken],
+) -> Result<(), Failed>
+    ensures wrote { Wrote result (K.held sink.old) page.old (K.held sink.new) page.new (key_text (codes " ") first.now ++ flat_map token_text others.now) }
+    ensures cause { HasCause (K.faults sink.old) (K.faults sink.new) result }
+{
+    put_key(page, sink, " ", first)?;
+    put_other_tokens(page, sink, others)
+}
+
+/// Puts the tokens of a message, of which the first has no number.
+#[tactic(auto, using(byte_port::proofs::Paging::pieces))]
+fn put_tokens<K: Sink>(page: &mut Page, sink: &mut K, tokens: &[KeyToken]) -> Result<(), Failed>
+    ensures wrote { Wrote result (K.held sink.old) page.old (K.held sink.new) page.new (tokens_text tokens.now) }
+    ensures cause { HasCause (K.faults sink.old) (K.faults sink.new) result }
 {
     match tokens {
         [] => Ok(()),
-        [first, others @ ..] => {
-            push_key(out, " ", first)?;
-            push_other_tokens(out, others)
-        }
+        [first, others @ ..] => put_first_tokens(page, sink, first, others),
     }
 }
 
-/// Appends keys with spaces before them.
-fn push_keys(out: &mut Vec<u8>, keys: &[u32]) -> Result<(), AllocError>
-    ensures { OnOk result (out.new.items ≡ out.old.items ++ keys_text keys.now) }
+/// Puts keys with spaces before them.
+#[tactic(auto, using(byte_port::proofs::Paging::pieces))]
+fn put_keys<K: Sink>(page: &mut Page, sink: &mut K, keys: &[u32]) -> Result<(), Failed>
+    ensures wrote { Wrote result (K.held sink.old) page.old (K.held sink.new) page.new (keys_text keys.now) }
+    ensures cause { HasCause (K.faults sink.old) (K.faults sink.new) result }
 {
     for key in keys {
-        push_number_field(out, " ", *key as u64)?;
+        put_number_field(page, sink, " ", *key as u64)?;
     }
     Ok(())
 }
 
-/// Appends an LLC message.
-pub fn push_llc(out: &mut Vec<u8>, message: &LlcMessage) -> Result<(), AllocError>
-    ensures { OnOk result (out.new.items ≡ out.old.items ++ llc_text message.now) }
+/// Puts the end of a link and two numbers behind it.
+#[tactic(auto, using(byte_port::proofs::Paging::pieces))]
+fn put_link_numbers<K: Sink>(
+    page: &mut Page,
+    sink: &mut K,
+    mac: &[u8],
+    gid: &[u8],
+    qp: u32,
+    link: u8,
+    word: &str,
+    number: u64,
+    second_word: &str,
+    second: u64,
+) -> Result<(), Failed>
+    ensures wrote { Wrote result (K.held sink.old) page.old (K.held sink.new) page.new (link_text mac.now gid.now qp link ++ two_numbers word.now number second_word.now second) }
+    ensures cause { HasCause (K.faults sink.old) (K.faults sink.new) result }
+{
+    put_link(page, sink, mac, gid, qp, link)?;
+    put_two_numbers(page, sink, word, number, second_word, second)
+}
+
+/// Puts the count of the keys for other links, and all keys.
+#[tactic(auto, using(byte_port::proofs::Paging::pieces))]
+fn put_others<K: Sink>(
+    page: &mut Page,
+    sink: &mut K,
+    others: u8,
+    tokens: &[KeyToken],
+) -> Result<(), Failed>
+    ensures wrote { Wrote result (K.held sink.old) page.old (K.held sink.new) page.new (number_field (codes " others ") others ++ tokens_text tokens.now) }
+    ensures cause { HasCause (K.faults sink.old) (K.faults sink.new) result }
+{
+    put_number_field(page, sink, " others ", others as u64)?;
+    put_tokens(page, sink, tokens)
+}
+
+/// Puts a mask of errors and keys.
+#[tactic(auto, using(byte_port::proofs::Paging::pieces))]
+fn put_mask<K: Sink>(page: &mut Page, sink: &mut K, mask: u8, keys: &[u32]) -> Result<(), Failed>
+    ensures wrote { Wrote result (K.held sink.old) page.old (K.held sink.new) page.new (byte_field (codes " mask ") mask ++ keys_text keys.now) }
+    ensures cause { HasCause (K.faults sink.old) (K.faults sink.new) result }
+{
+    put_byte_field(page, sink, " mask ", mask)?;
+    put_keys(page, sink, keys)
+}
+
+/// Puts the count of deleted keys, a mask of errors, and the keys.
+#[tactic(auto, using(byte_port::proofs::Paging::pieces))]
+fn put_deleted<K: Sink>(
+    page: &mut Page,
+    sink: &mut K,
+    count: u8,
+    mask: u8,
+    keys: &[u32],
+) -> Result<(), Failed>
+    ensures wrote { Wrote result (K.held sink.old) page.old (K.held sink.new) page.new (number_field (codes " count ") count ++ (byte_field (codes " mask ") mask ++ keys_text keys.now)) }
+    ensures cause { HasCause (K.faults sink.old) (K.faults sink.new) result }
+{
+    put_number_field(page, sink, " count ", count as u64)?;
+    put_mask(page, sink, mask, keys)
+}
+
+/// Puts two numbers and keys for a new link.
+#[tactic(auto, using(byte_port::proofs::Paging::pieces))]
+fn put_counted_keys<K: Sink>(
+    page: &mut Page,
+    sink: &mut K,
+    link: u8,
+    count: u8,
+    keys: &[NewKey],
+) -> Result<(), Failed>
+    ensures wrote { Wrote result (K.held sink.old) page.old (K.held sink.new) page.new (two_numbers (codes " link ") link (codes " count ") count ++ flat_map new_key_text keys.now) }
+    ensures cause { HasCause (K.faults sink.old) (K.faults sink.new) result }
+{
+    put_two_numbers(page, sink, " link ", link as u64, " count ", count as u64)?;
+    put_new_keys(page, sink, keys)
+}
+
+/// Puts a message that deletes links.
+#[tactic(auto, using(byte_port::proofs::Paging::pieces))]
+fn put_delete_link<K: Sink>(
+    page: &mut Page,
+    sink: &mut K,
+    reply: bool,
+    all: bool,
+    orderly: bool,
+    link: u8,
+    reason: u32,
+) -> Result<(), Failed>
+    ensures wrote { Wrote result (K.held sink.old) page.old (K.held sink.new) page.new (head_text (codes "delete link") reply ++ (two_flags (codes " all") all (codes " orderly") orderly ++ two_numbers (codes " link ") link (codes " reason ") reason)) }
+    ensures cause { HasCause (K.faults sink.old) (K.faults sink.new) result }
+{
+    put_head(page, sink, "delete link", reply)?;
+    put_two_flags(page, sink, " all", all, " orderly", orderly)?;
+    put_two_numbers(page, sink, " link ", link as u64, " reason ", reason as u64)
+}
+
+/// Puts a message that confirms a key.
+#[tactic(auto, using(byte_port::proofs::Paging::pieces))]
+fn put_confirm_rkey<K: Sink>(
+    page: &mut Page,
+    sink: &mut K,
+    reply: bool,
+    retry: bool,
+    negative: bool,
+    others: u8,
+    tokens: &[KeyToken],
+) -> Result<(), Failed>
+    ensures wrote { Wrote result (K.held sink.old) page.old (K.held sink.new) page.new (head_text (codes "confirm rkey") reply ++ (two_flags (codes " retry") retry (codes " negative") negative ++ (number_field (codes " others ") others ++ tokens_text tokens.now))) }
+    ensures cause { HasCause (K.faults sink.old) (K.faults sink.new) result }
+{
+    put_head(page, sink, "confirm rkey", reply)?;
+    put_two_flags(page, sink, " retry", retry, " negative", negative)?;
+    put_others(page, sink, others, tokens)
+}
+
+/// Puts a message that deletes keys.
+#[tactic(auto, using(byte_port::proofs::Paging::pieces))]
+fn put_delete_rkey<K: Sink>(
+    page: &mut Page,
+    sink: &mut K,
+    reply: bool,
+    negative: bool,
+    count: u8,
+    mask: u8,
+    keys: &[u32],
+) -> Result<(), Failed>
+    ensures wrote { Wrote result (K.held sink.old) page.old (K.held sink.new) page.new (head_text (codes "delete rkey") reply ++ (flag_text (codes " negative") negative ++ (number_field (codes " count ") count ++ (byte_field (codes " mask ") mask ++ keys_text keys.now)))) }
+    ensures cause { HasCause (K.faults sink.old) (K.faults sink.new) result }
+{
+    put_head(page, sink, "delete rkey", reply)?;
+    put_flag(page, sink, " negative", negative)?;
+    put_deleted(page, sink, count, mask, keys)
+}
+
+/// Puts an LLC message.
+#[tactic(auto, using(byte_port::proofs::Paging::pieces))]
+pub fn put_llc<K: Sink>(page: &mut Page, sink: &mut K, message: &LlcMessage) -> Result<(), Failed>
+    ensures wrote { Wrote result (K.held sink.old) page.old (K.held sink.new) page.new (llc_text message.now) }
+    ensures cause { HasCause (K.faults sink.old) (K.faults sink.new) result }
 {
     match message {
         LlcMessage::ConfirmLink {
@@ -278,9 +574,19 @@ pub fn push_llc(out: &mut Vec<u8>, message: &LlcMessage) -> Result<(), AllocErro
             user,
             most,
         } => {
-            push_head(out, "confirm link", *reply)?;
-            push_link(out, mac, gid, *qp, *link)?;
-            push_two_numbers(out, " user ", *user as u64, " most ", *most as u64)
+            put_head(page, sink, "confirm link", *reply)?;
+            put_link_numbers(
+                page,
+                sink,
+                mac,
+                gid,
+                *qp,
+                *link,
+                " user ",
+                *user as u64,
+                " most ",
+                *most as u64,
+            )
         }
         LlcMessage::AddLink {
             reply,
@@ -293,10 +599,20 @@ pub fn push_llc(out: &mut Vec<u8>, message: &LlcMessage) -> Result<(), AllocErro
             mtu,
             psn,
         } => {
-            push_head(out, "add link", *reply)?;
-            push_rejected(out, *rejected, *reason)?;
-            push_link(out, mac, gid, *qp, *link)?;
-            push_two_numbers(out, " mtu ", *mtu as u64, " psn ", *psn as u64)
+            put_head(page, sink, "add link", *reply)?;
+            put_rejected(page, sink, *rejected, *reason)?;
+            put_link_numbers(
+                page,
+                sink,
+                mac,
+                gid,
+                *qp,
+                *link,
+                " mtu ",
+                *mtu as u64,
+                " psn ",
+                *psn as u64,
+            )
         }
         LlcMessage::AddKeys {
             reply,
@@ -304,9 +620,8 @@ pub fn push_llc(out: &mut Vec<u8>, message: &LlcMessage) -> Result<(), AllocErro
             count,
             keys,
         } => {
-            push_head(out, "add keys", *reply)?;
-            push_two_numbers(out, " link ", *link as u64, " count ", *count as u64)?;
-            push_new_keys(out, keys)
+            put_head(page, sink, "add keys", *reply)?;
+            put_counted_keys(page, sink, *link, *count, keys)
         }
         LlcMessage::DeleteLink {
             reply,
@@ -314,26 +629,17 @@ pub fn push_llc(out: &mut Vec<u8>, message: &LlcMessage) -> Result<(), AllocErro
             orderly,
             link,
             reason,
-        } => {
-            push_head(out, "delete link", *reply)?;
-            push_two_flags(out, " all", *all, " orderly", *orderly)?;
-            push_two_numbers(out, " link ", *link as u64, " reason ", *reason as u64)
-        }
+        } => put_delete_link(page, sink, *reply, *all, *orderly, *link, *reason),
         LlcMessage::ConfirmRkey {
             reply,
             retry,
             negative,
             others,
             tokens,
-        } => {
-            push_head(out, "confirm rkey", *reply)?;
-            push_two_flags(out, " retry", *retry, " negative", *negative)?;
-            push_number_field(out, " others ", *others as u64)?;
-            push_tokens(out, tokens)
-        }
+        } => put_confirm_rkey(page, sink, *reply, *retry, *negative, *others, tokens),
         LlcMessage::TestLink { reply, bytes } => {
-            push_head(out, "test link", *reply)?;
-            push_hex_field(out, " ", bytes)
+            put_head(page, sink, "test link", *reply)?;
+            put_hex_field(page, sink, " ", bytes)
         }
         LlcMessage::DeleteRkey {
             reply,
@@ -341,50 +647,98 @@ pub fn push_llc(out: &mut Vec<u8>, message: &LlcMessage) -> Result<(), AllocErro
             count,
             mask,
             keys,
-        } => {
-            push_head(out, "delete rkey", *reply)?;
-            push_flag(out, " negative", *negative)?;
-            push_number_field(out, " count ", *count as u64)?;
-            push_byte_field(out, " mask ", *mask)?;
-            push_keys(out, keys)
-        }
+        } => put_delete_rkey(page, sink, *reply, *negative, *count, *mask, keys),
     }
 }
 
-/// Appends what is wrong with the bytes of an LLC message.
-pub fn push_llc_fault(out: &mut Vec<u8>, fault: LlcFault) -> Result<(), AllocError>
-    ensures { OnOk result (out.new.items ≡ out.old.items ++ llc_fault_text fault) }
+/// Puts what is wrong with the bytes of an LLC message.
+#[tactic(auto, using(byte_port::proofs::Paging::pieces))]
+pub fn put_llc_fault<K: Sink>(page: &mut Page, sink: &mut K, fault: LlcFault) -> Result<(), Failed>
+    ensures wrote { Wrote result (K.held sink.old) page.old (K.held sink.new) page.new (llc_fault_text fault) }
+    ensures cause { HasCause (K.faults sink.old) (K.faults sink.new) result }
 {
     match fault {
-        LlcFault::BadType { value } => push_number_field(out, "fault bad type ", value as u64),
-        LlcFault::BadLength { value } => push_number_field(out, "fault bad length ", value as u64),
-        LlcFault::BadCount { value } => push_number_field(out, "fault bad count ", value as u64),
+        LlcFault::BadType { value } => put_number_field(
+            page,
+            sink,
+            "fault bad type ",
+            value as u64,
+        ),
+        LlcFault::BadLength { value } => put_number_field(
+            page,
+            sink,
+            "fault bad length ",
+            value as u64,
+        ),
+        LlcFault::BadCount { value } => put_number_field(
+            page,
+            sink,
+            "fault bad count ",
+            value as u64,
+        ),
     }
 }
 
-/// Appends a CDC message.
-pub fn push_cdc(out: &mut Vec<u8>, message: &CdcMessage) -> Result<(), AllocError>
-    ensures { OnOk result (out.new.items ≡ out.old.items ++ cdc_text message.now) }
+/// Puts a sender's flags.
+#[tactic(auto, using(byte_port::proofs::Paging::pieces))]
+fn put_states<K: Sink>(page: &mut Page, sink: &mut K, producer: u8, state: u8) -> Result<(), Failed>
+    ensures wrote { Wrote result (K.held sink.old) page.old (K.held sink.new) page.new (byte_field (codes " producer ") producer ++ byte_field (codes " state ") state) }
+    ensures cause { HasCause (K.faults sink.old) (K.faults sink.new) result }
 {
-    push_two_numbers(
-        out,
+    put_byte_field(page, sink, " producer ", producer)?;
+    put_byte_field(page, sink, " state ", state)
+}
+
+/// Puts the cursors and flags of a CDC message.
+#[tactic(auto, using(byte_port::proofs::Paging::pieces))]
+fn put_cdc_fields<K: Sink>(
+    page: &mut Page,
+    sink: &mut K,
+    message: &CdcMessage,
+) -> Result<(), Failed>
+    ensures wrote { Wrote result (K.held sink.old) page.old (K.held sink.new) page.new (cursor_text (codes " told ") message.now.told ++ (cursor_text (codes " read ") message.now.read ++ (byte_field (codes " producer ") message.now.producer ++ byte_field (codes " state ") message.now.state))) }
+    ensures cause { HasCause (K.faults sink.old) (K.faults sink.new) result }
+{
+    put_cursor(page, sink, " told ", message.told)?;
+    put_cursor(page, sink, " read ", message.read)?;
+    put_states(page, sink, message.producer, message.state)
+}
+
+/// Puts a CDC message.
+#[tactic(auto, using(byte_port::proofs::Paging::pieces))]
+pub fn put_cdc<K: Sink>(page: &mut Page, sink: &mut K, message: &CdcMessage) -> Result<(), Failed>
+    ensures wrote { Wrote result (K.held sink.old) page.old (K.held sink.new) page.new (cdc_text message.now) }
+    ensures cause { HasCause (K.faults sink.old) (K.faults sink.new) result }
+{
+    put_two_numbers(
+        page,
+        sink,
         "cdc number ",
         message.number as u64,
         " token ",
         message.token as u64,
     )?;
-    push_cursor(out, " told ", message.told)?;
-    push_cursor(out, " read ", message.read)?;
-    push_byte_field(out, " producer ", message.producer)?;
-    push_byte_field(out, " state ", message.state)
+    put_cdc_fields(page, sink, message)
 }
 
-/// Appends what is wrong with the bytes of a CDC message.
-pub fn push_cdc_fault(out: &mut Vec<u8>, fault: CdcFault) -> Result<(), AllocError>
-    ensures { OnOk result (out.new.items ≡ out.old.items ++ cdc_fault_text fault) }
+/// Puts what is wrong with the bytes of a CDC message.
+#[tactic(auto, using(byte_port::proofs::Paging::pieces))]
+pub fn put_cdc_fault<K: Sink>(page: &mut Page, sink: &mut K, fault: CdcFault) -> Result<(), Failed>
+    ensures wrote { Wrote result (K.held sink.old) page.old (K.held sink.new) page.new (cdc_fault_text fault) }
+    ensures cause { HasCause (K.faults sink.old) (K.faults sink.new) result }
 {
     match fault {
-        CdcFault::BadType { value } => push_number_field(out, "fault bad type ", value as u64),
-        CdcFault::BadLength { value } => push_number_field(out, "fault bad length ", value as u64),
+        CdcFault::BadType { value } => put_number_field(
+            page,
+            sink,
+            "fault bad type ",
+            value as u64,
+        ),
+        CdcFault::BadLength { value } => put_number_field(
+            page,
+            sink,
+            "fault bad length ",
+            value as u64,
+        ),
     }
 }

@@ -1,26 +1,32 @@
-//! Bytes, numbers, names and events, appended to one buffer.
-ghost use Rattle.std.specs.Prelude.{◌≡◌, ◌++◌, ◌∷◌, ◌<◌, OnOk, codes};
+//! Bytes, numbers, names and events, by way of a page.
+ghost use Rattle.std.specs.Prelude.{◌≡◌, ◌++◌, ◌∷◌, ◌<◌, codes};
 ghost use Rattle.std.specs.Fmt.{decimal};
+ghost use Rattle.byte_port.specs.Causes.{HasCause};
+ghost use Rattle.byte_port.specs.Pages.{Wrote};
 ghost use Rattle.scene_text.specs.Spelling.{hex_digit, hex_byte, run_text, bytes_text, side_text, name_text, end_text, payload_part, event_text};
 ghost use Rattle.smcr_cli.specs.Prints.{names_of};
 
+use byte_port::{Failed, Page, Sink};
 use itoa::Buffer;
 use pipe_model::{End, Event, Side};
-use std::alloc::AllocError;
 
-/// Appends a text.
-pub fn push_text(out: &mut Vec<u8>, text: &str) -> Result<(), AllocError>
-    ensures { OnOk result (out.new.items ≡ out.old.items ++ text.now) }
+/// Puts a text.
+#[tactic(auto, using(byte_port::proofs::Paging::pieces))]
+pub fn put_text<K: Sink>(page: &mut Page, sink: &mut K, text: &str) -> Result<(), Failed>
+    ensures wrote { Wrote result (K.held sink.old) page.old (K.held sink.new) page.new text.now }
+    ensures cause { HasCause (K.faults sink.old) (K.faults sink.new) result }
 {
-    out.extend_from_slice(text.as_bytes())
+    page.put(sink, text.as_bytes())
 }
 
-/// Appends a number in decimal digits.
-pub fn push_number(out: &mut Vec<u8>, number: u64) -> Result<(), AllocError>
-    ensures { OnOk result (out.new.items ≡ out.old.items ++ decimal number) }
+/// Puts a number in decimal digits.
+#[tactic(auto, using(byte_port::proofs::Paging::pieces))]
+pub fn put_number<K: Sink>(page: &mut Page, sink: &mut K, number: u64) -> Result<(), Failed>
+    ensures wrote { Wrote result (K.held sink.old) page.old (K.held sink.new) page.new (decimal number) }
+    ensures cause { HasCause (K.faults sink.old) (K.faults sink.new) result }
 {
     let mut buffer = Buffer::new();
-    push_text(out, buffer.format(number))
+    put_text(page, sink, buffer.format(number))
 }
 
 /// A hexadecimal digit in lower case.
@@ -35,38 +41,46 @@ fn digit(value: u8) -> u8
     }
 }
 
-/// Appends a byte in two hexadecimal digits.
-pub fn push_hex(out: &mut Vec<u8>, byte: u8) -> Result<(), AllocError>
-    ensures { OnOk result (out.new.items ≡ out.old.items ++ hex_byte byte) }
+/// Puts a byte in two hexadecimal digits.
+#[tactic(auto, using(byte_port::proofs::Paging::pieces))]
+pub fn put_hex<K: Sink>(page: &mut Page, sink: &mut K, byte: u8) -> Result<(), Failed>
+    ensures wrote { Wrote result (K.held sink.old) page.old (K.held sink.new) page.new (hex_byte byte) }
+    ensures cause { HasCause (K.faults sink.old) (K.faults sink.new) result }
 {
-    out.extend_from_slice(&[digit(byte / 16), digit(byte % 16)])
+    page.put(sink, &[digit(byte / 16), digit(byte % 16)])
 }
 
-/// Appends a run of one byte.
-fn push_run(out: &mut Vec<u8>, byte: u8, count: usize) -> Result<(), AllocError>
-    ensures { OnOk result (out.new.items ≡ out.old.items ++ run_text (record { byte = byte; count = count })) }
+/// Puts a run of one byte.
+#[tactic(auto, using(byte_port::proofs::Paging::pieces))]
+fn put_run<K: Sink>(page: &mut Page, sink: &mut K, byte: u8, count: usize) -> Result<(), Failed>
+    ensures wrote { Wrote result (K.held sink.old) page.old (K.held sink.new) page.new (run_text (record { byte = byte; count = count })) }
+    ensures cause { HasCause (K.faults sink.old) (K.faults sink.new) result }
 {
-    push_hex(out, byte)?;
+    put_hex(page, sink, byte)?;
     if count != 1 {
-        push_text(out, "*")?;
-        push_number(out, count as u64)?;
+        put_text(page, sink, "*")?;
+        put_number(page, sink, count as u64)?;
     }
     Ok(())
 }
 
-/// Appends bytes in runs.
-pub fn push_bytes(out: &mut Vec<u8>, bytes: &[u8]) -> Result<(), AllocError>
-    ensures { OnOk result (out.new.items ≡ out.old.items ++ bytes_text bytes.now) }
+/// Puts bytes in runs.
+#[tactic(auto, using(byte_port::proofs::Paging::pieces))]
+pub fn put_bytes<K: Sink>(page: &mut Page, sink: &mut K, bytes: &[u8]) -> Result<(), Failed>
+    ensures wrote { Wrote result (K.held sink.old) page.old (K.held sink.new) page.new (bytes_text bytes.now) }
+    ensures cause { HasCause (K.faults sink.old) (K.faults sink.new) result }
 {
     if bytes.is_empty() {
-        return push_text(out, "-");
+        return put_text(page, sink, "-");
     }
-    push_runs(out, bytes[0], &bytes[1..])
+    put_runs(page, sink, bytes[0], &bytes[1..])
 }
 
-/// Appends the runs of a byte and those that follow it.
-fn push_runs(out: &mut Vec<u8>, first: u8, rest: &[u8]) -> Result<(), AllocError>
-    ensures { OnOk result (out.new.items ≡ out.old.items ++ bytes_text (first ∷ rest.now)) }
+/// Puts the runs of a byte and those that follow it.
+#[tactic(auto, using(byte_port::proofs::Paging::pieces))]
+fn put_runs<K: Sink>(page: &mut Page, sink: &mut K, first: u8, rest: &[u8]) -> Result<(), Failed>
+    ensures wrote { Wrote result (K.held sink.old) page.old (K.held sink.new) page.new (bytes_text (first ∷ rest.now)) }
+    ensures cause { HasCause (K.faults sink.old) (K.faults sink.new) result }
 {
     let mut current = first;
     let mut count: usize = 1;
@@ -74,42 +88,60 @@ fn push_runs(out: &mut Vec<u8>, first: u8, rest: &[u8]) -> Result<(), AllocError
         if *byte == current {
             count += 1;
         } else {
-            push_run(out, current, count)?;
-            push_text(out, ",")?;
+            put_run(page, sink, current, count)?;
+            put_text(page, sink, ",")?;
             current = *byte;
             count = 1;
         }
     }
-    push_run(out, current, count)
+    put_run(page, sink, current, count)
 }
 
-/// Appends the letter of a side.
-pub fn push_side(out: &mut Vec<u8>, side: Side) -> Result<(), AllocError>
-    ensures { OnOk result (out.new.items ≡ out.old.items ++ side_text side) }
+/// Puts the letter of a side.
+#[tactic(auto, using(byte_port::proofs::Paging::pieces))]
+pub fn put_side<K: Sink>(page: &mut Page, sink: &mut K, side: Side) -> Result<(), Failed>
+    ensures wrote { Wrote result (K.held sink.old) page.old (K.held sink.new) page.new (side_text side) }
+    ensures cause { HasCause (K.faults sink.old) (K.faults sink.new) result }
 {
     match side {
-        Side::A => push_text(out, "A"),
-        Side::B => push_text(out, "B"),
+        Side::A => put_text(page, sink, "A"),
+        Side::B => put_text(page, sink, "B"),
     }
 }
 
-/// Appends the name of this number, if there is one.
-pub fn push_name(out: &mut Vec<u8>, names: &[String], number: u32) -> Result<(), AllocError>
-    ensures { OnOk result (out.new.items ≡ out.old.items ++ name_text (names_of names.now) number) }
+/// The name of this number; an empty one where there is none.
+fn name_of(names: &[String], number: u32) -> &str
+    ensures { result.now ≡ name_text (names_of names.now) number }
 {
     match names.get(number as usize) {
-        Some(name) => push_text(out, name.as_str()),
-        None => Ok(()),
+        Some(name) => name.as_str(),
+        None => "",
     }
 }
 
-/// Appends an end: a side, a point and the socket's name.
-fn push_end(out: &mut Vec<u8>, names: &[String], end: End) -> Result<(), AllocError>
-    ensures { OnOk result (out.new.items ≡ out.old.items ++ end_text (names_of names.now) end) }
+/// Puts the name of this number, if there is one.
+#[tactic(auto, using(byte_port::proofs::Paging::pieces))]
+pub fn put_name<K: Sink>(
+    page: &mut Page,
+    sink: &mut K,
+    names: &[String],
+    number: u32,
+) -> Result<(), Failed>
+    ensures wrote { Wrote result (K.held sink.old) page.old (K.held sink.new) page.new (name_text (names_of names.now) number) }
+    ensures cause { HasCause (K.faults sink.old) (K.faults sink.new) result }
 {
-    push_side(out, end.side)?;
-    push_text(out, ".")?;
-    push_name(out, names, end.s)
+    put_text(page, sink, name_of(names, number))
+}
+
+/// Puts an end: a side, a point and the socket's name.
+#[tactic(auto, using(byte_port::proofs::Paging::pieces))]
+fn put_end<K: Sink>(page: &mut Page, sink: &mut K, names: &[String], end: End) -> Result<(), Failed>
+    ensures wrote { Wrote result (K.held sink.old) page.old (K.held sink.new) page.new (end_text (names_of names.now) end) }
+    ensures cause { HasCause (K.faults sink.old) (K.faults sink.new) result }
+{
+    put_side(page, sink, end.side)?;
+    put_text(page, sink, ".")?;
+    put_name(page, sink, names, end.s)
 }
 
 /// The bytes from a place on, at most so many, as far as there are any.
@@ -121,99 +153,139 @@ fn part(bytes: &[u8], at: u32, len: u32) -> &[u8]
     &rest[..(len as usize).min(rest.len())]
 }
 
-/// Appends some of the bytes in runs.
-pub fn push_part(out: &mut Vec<u8>, bytes: &[u8], at: u32, len: u32) -> Result<(), AllocError>
-    ensures { OnOk result (out.new.items ≡ out.old.items ++ bytes_text (payload_part bytes.now at len)) }
+/// Puts some of the bytes in runs.
+#[tactic(auto, using(byte_port::proofs::Paging::pieces))]
+pub fn put_part<K: Sink>(
+    page: &mut Page,
+    sink: &mut K,
+    bytes: &[u8],
+    at: u32,
+    len: u32,
+) -> Result<(), Failed>
+    ensures wrote { Wrote result (K.held sink.old) page.old (K.held sink.new) page.new (bytes_text (payload_part bytes.now at len)) }
+    ensures cause { HasCause (K.faults sink.old) (K.faults sink.new) result }
 {
-    push_bytes(out, part(bytes, at, len))
+    put_bytes(page, sink, part(bytes, at, len))
 }
 
-/// Appends a word, a space and a call's end.
-fn push_call(out: &mut Vec<u8>, word: &str, names: &[String], end: End) -> Result<(), AllocError>
-    ensures { OnOk result (out.new.items ≡ out.old.items ++ (word.now ++ end_text (names_of names.now) end)) }
+/// Puts a word, a space and a call's end.
+#[tactic(auto, using(byte_port::proofs::Paging::pieces))]
+fn put_call<K: Sink>(
+    page: &mut Page,
+    sink: &mut K,
+    word: &str,
+    names: &[String],
+    end: End,
+) -> Result<(), Failed>
+    ensures wrote { Wrote result (K.held sink.old) page.old (K.held sink.new) page.new (word.now ++ end_text (names_of names.now) end) }
+    ensures cause { HasCause (K.faults sink.old) (K.faults sink.new) result }
 {
-    push_text(out, word)?;
-    push_end(out, names, end)
+    put_text(page, sink, word)?;
+    put_end(page, sink, names, end)
 }
 
-/// Appends a word and a slot.
-fn push_slot(out: &mut Vec<u8>, word: &str, slot: u8) -> Result<(), AllocError>
-    ensures { OnOk result (out.new.items ≡ out.old.items ++ (word.now ++ decimal slot)) }
+/// Puts a word and a slot.
+#[tactic(auto, using(byte_port::proofs::Paging::pieces))]
+fn put_slot<K: Sink>(page: &mut Page, sink: &mut K, word: &str, slot: u8) -> Result<(), Failed>
+    ensures wrote { Wrote result (K.held sink.old) page.old (K.held sink.new) page.new (word.now ++ decimal slot) }
+    ensures cause { HasCause (K.faults sink.old) (K.faults sink.new) result }
 {
-    push_text(out, word)?;
-    push_number(out, slot as u64)
+    put_text(page, sink, word)?;
+    put_number(page, sink, slot as u64)
 }
 
-/// Appends a word, a slot, a space and a side.
-fn push_slot_side(out: &mut Vec<u8>, word: &str, slot: u8, side: Side) -> Result<(), AllocError>
-    ensures { OnOk result (out.new.items ≡ out.old.items ++ (word.now ++ (decimal slot ++ (codes " " ++ side_text side)))) }
+/// Puts a word, a slot, a space and a side.
+#[tactic(auto, using(byte_port::proofs::Paging::pieces))]
+fn put_slot_side<K: Sink>(
+    page: &mut Page,
+    sink: &mut K,
+    word: &str,
+    slot: u8,
+    side: Side,
+) -> Result<(), Failed>
+    ensures wrote { Wrote result (K.held sink.old) page.old (K.held sink.new) page.new (word.now ++ (decimal slot ++ (codes " " ++ side_text side))) }
+    ensures cause { HasCause (K.faults sink.old) (K.faults sink.new) result }
 {
-    push_slot(out, word, slot)?;
-    push_text(out, " ")?;
-    push_side(out, side)
+    put_text(page, sink, word)?;
+    put_number(page, sink, slot as u64)?;
+    put_text(page, sink, " ")?;
+    put_side(page, sink, side)
 }
 
-/// Appends a word, a side, a space and a slot.
-fn push_side_slot(out: &mut Vec<u8>, word: &str, side: Side, slot: u8) -> Result<(), AllocError>
-    ensures { OnOk result (out.new.items ≡ out.old.items ++ (word.now ++ (side_text side ++ (codes " " ++ decimal slot)))) }
+/// Puts a word, a side, a space and a slot.
+#[tactic(auto, using(byte_port::proofs::Paging::pieces))]
+fn put_side_slot<K: Sink>(
+    page: &mut Page,
+    sink: &mut K,
+    word: &str,
+    side: Side,
+    slot: u8,
+) -> Result<(), Failed>
+    ensures wrote { Wrote result (K.held sink.old) page.old (K.held sink.new) page.new (word.now ++ (side_text side ++ (codes " " ++ decimal slot))) }
+    ensures cause { HasCause (K.faults sink.old) (K.faults sink.new) result }
 {
-    push_text(out, word)?;
-    push_side(out, side)?;
-    push_slot(out, " ", slot)
+    put_text(page, sink, word)?;
+    put_side(page, sink, side)?;
+    put_slot(page, sink, " ", slot)
 }
 
-/// Appends an event as a line of a scene.
-pub fn push_event(
-    out: &mut Vec<u8>,
+/// Puts an event as a line of a scene.
+#[tactic(auto, using(byte_port::proofs::Paging::pieces))]
+pub fn put_event<K: Sink>(
+    page: &mut Page,
+    sink: &mut K,
     names: &[String],
     payload: &[u8],
     event: Event,
-) -> Result<(), AllocError>
-    ensures { OnOk result (out.new.items ≡ out.old.items ++ event_text (names_of names.now) payload.now event) }
+) -> Result<(), Failed>
+    ensures wrote { Wrote result (K.held sink.old) page.old (K.held sink.new) page.new (event_text (names_of names.now) payload.now event) }
+    ensures cause { HasCause (K.faults sink.old) (K.faults sink.new) result }
 {
     match event {
         Event::Open(s) => {
-            push_text(out, "open ")?;
-            push_name(out, names, s)
+            put_text(page, sink, "open ")?;
+            put_name(page, sink, names, s)
         }
         Event::Raw { s, at, len } => {
-            push_text(out, "raw ")?;
-            push_name(out, names, s)?;
-            push_text(out, " ")?;
-            push_part(out, payload, at, len)
+            put_text(page, sink, "raw ")?;
+            put_name(page, sink, names, s)?;
+            put_text(page, sink, " ")?;
+            put_part(page, sink, payload, at, len)
         }
         Event::Write { end, at, len } => {
-            push_call(out, "write ", names, end)?;
-            push_text(out, " ")?;
-            push_part(out, payload, at, len)
+            put_text(page, sink, "write ")?;
+            put_end(page, sink, names, end)?;
+            put_text(page, sink, " ")?;
+            put_part(page, sink, payload, at, len)
         }
         Event::Read { end, len } => {
-            push_call(out, "read ", names, end)?;
-            push_text(out, " ")?;
-            push_number(out, len as u64)
+            put_text(page, sink, "read ")?;
+            put_end(page, sink, names, end)?;
+            put_text(page, sink, " ")?;
+            put_number(page, sink, len as u64)
         }
-        Event::Finish(end) => push_call(out, "finish ", names, end),
-        Event::Close(end) => push_call(out, "close ", names, end),
-        Event::Abort(end) => push_call(out, "abort ", names, end),
-        Event::Await(end) => push_call(out, "await ", names, end),
+        Event::Finish(end) => put_call(page, sink, "finish ", names, end),
+        Event::Close(end) => put_call(page, sink, "close ", names, end),
+        Event::Abort(end) => put_call(page, sink, "abort ", names, end),
+        Event::Await(end) => put_call(page, sink, "await ", names, end),
         Event::Clc { s, dir } => {
-            push_text(out, "clc ")?;
-            push_name(out, names, s)?;
-            push_text(out, " ")?;
-            push_side(out, dir)
+            put_text(page, sink, "clc ")?;
+            put_name(page, sink, names, s)?;
+            put_text(page, sink, " ")?;
+            put_side(page, sink, dir)
         }
-        Event::Deliver { slot, dir } => push_slot_side(out, "deliver ", slot, dir),
-        Event::Complete { slot, dir } => push_slot_side(out, "complete ", slot, dir),
-        Event::Swallow { slot, dir } => push_slot_side(out, "swallow ", slot, dir),
-        Event::Cut(slot) => push_slot(out, "cut ", slot),
-        Event::Heal(slot) => push_slot(out, "heal ", slot),
-        Event::Report { side, slot } => push_side_slot(out, "report ", side, slot),
-        Event::Move(end) => push_call(out, "move ", names, end),
-        Event::Grow => push_text(out, "grow"),
-        Event::Test { side, slot } => push_side_slot(out, "test ", side, slot),
+        Event::Deliver { slot, dir } => put_slot_side(page, sink, "deliver ", slot, dir),
+        Event::Complete { slot, dir } => put_slot_side(page, sink, "complete ", slot, dir),
+        Event::Swallow { slot, dir } => put_slot_side(page, sink, "swallow ", slot, dir),
+        Event::Cut(slot) => put_slot(page, sink, "cut ", slot),
+        Event::Heal(slot) => put_slot(page, sink, "heal ", slot),
+        Event::Report { side, slot } => put_side_slot(page, sink, "report ", side, slot),
+        Event::Move(end) => put_call(page, sink, "move ", names, end),
+        Event::Grow => put_text(page, sink, "grow"),
+        Event::Test { side, slot } => put_side_slot(page, sink, "test ", side, slot),
         Event::Trim(side) => {
-            push_text(out, "trim ")?;
-            push_side(out, side)
+            put_text(page, sink, "trim ")?;
+            put_side(page, sink, side)
         }
     }
 }

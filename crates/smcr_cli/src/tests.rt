@@ -1,6 +1,8 @@
 //! The top call over memory: worked scenes, refusals, and faults of the outside.
+ghost use Rattle.std.specs.Prelude.{None};
+
 use crate::top::{Status, smcr};
-use byte_port::{MemorySink, MemorySource};
+use byte_port::{Failed, MemorySink, MemorySource, Sink, Source};
 use std::test::Fail;
 
 /// Words and an input, with what they are answered and the text that goes with it.
@@ -219,5 +221,177 @@ fn faults_of_the_outside_have_their_statuses(rt: HostRuntime) -> Result<(), Fail
     let status = smcr(rt.alloc(), &["run"], &mut source, &mut sink);
     assert_eq!(rt; status, Status::TooLong);
     assert!(rt; sink.held() == b"too long\n".as_slice());
+    Ok(())
+}
+
+/// A source that hands over at most so many bytes a call, and whose call of this number fails.
+#[derive(Drop)]
+struct SlowSource {
+    bytes: Vec<u8>,
+    at: usize,
+    most: usize,
+    calls: u32,
+    fail: u32,
+    faults: u64,
+}
+
+impl Source for SlowSource {
+    ghost left = { λ _. None };
+
+    ghost faults = { λ s. s.faults };
+
+    fn read(&mut self, out: &mut [u8]) -> Result<usize, Failed> {
+        self.calls = self.calls.saturating_add(1);
+        if self.calls == self.fail {
+            self.faults = self.faults.saturating_add(1);
+            return Err(Failed);
+        }
+        let rest = &self.bytes[self.at.min(self.bytes.len())..];
+        let count = rest.len().min(self.most).min(out.len());
+        out[..count].copy_from_slice(&rest[..count]);
+        self.at = self.at.saturating_add(count);
+        Ok(count)
+    }
+}
+
+/// A sink that takes at most so many bytes a call, and whose call of this number fails.
+#[derive(Drop)]
+struct SlowSink {
+    bytes: Vec<u8>,
+    most: usize,
+    calls: u32,
+    fail: u32,
+    faults: u64,
+}
+
+impl Sink for SlowSink {
+    ghost held = { λ _. None };
+
+    ghost faults = { λ s. s.faults };
+
+    fn write(&mut self, piece: &[u8]) -> Result<usize, Failed> {
+        self.calls = self.calls.saturating_add(1);
+        let count = piece.len().min(self.most.max(1));
+        if self.calls != self.fail && self.bytes.extend_from_slice(&piece[..count]).is_ok() {
+            Ok(count)
+        } else {
+            self.faults = self.faults.saturating_add(1);
+            Err(Failed)
+        }
+    }
+}
+
+/// What a run came to.
+#[derive(Drop)]
+struct Outcome {
+    status: Status,
+    text: Vec<u8>,
+}
+
+/// Does what one word asks for, where a call of the source and one of the sink fail, by their
+/// numbers from 1; no call has number 0.
+fn run_slowly(
+    rt: &HostRuntime,
+    case: &Slow<'_>,
+    failing_read: u32,
+    failing_write: u32,
+) -> Result<Outcome, Fail> {
+    let mut source = SlowSource {
+        bytes: Vec::from_slice(rt.alloc(), case.input)?,
+        at: 0,
+        most: case.most,
+        calls: 0,
+        fail: failing_read,
+        faults: 0,
+    };
+    let mut sink = SlowSink {
+        bytes: Vec::new(rt.alloc()),
+        most: case.most,
+        calls: 0,
+        fail: failing_write,
+        faults: 0,
+    };
+    let status = smcr(rt.alloc(), &[case.word], &mut source, &mut sink);
+    Ok(Outcome {
+        status,
+        text: sink.bytes,
+    })
+}
+
+/// A word and an input, how many bytes a call of source and sink moves, and how many calls there
+/// are of each.
+#[derive(Clone, Copy)]
+struct Slow<'a> {
+    word: &'a str,
+    input: &'a [u8],
+    most: usize,
+    reads: u32,
+    writes: u32,
+}
+
+/// Whether each read fails in turn, and nothing is written, and each write, and a front of the text
+/// is; with the number past the last call none fails.
+fn each_call_fails_in_turn(rt: &HostRuntime, case: &Slow<'_>) -> Result<bool, Fail> {
+    let whole = run_slowly(rt, case, 0, 0)?;
+    for n in 1..=case.reads {
+        let got = run_slowly(rt, case, n, 0)?;
+        if got.status != Status::ReadFault || !got.text.is_empty() {
+            return Ok(false);
+        }
+    }
+    for n in 1..=case.writes {
+        let got = run_slowly(rt, case, 0, n)?;
+        if got.status != Status::WriteFault || !is_true_front(&got.text, &whole.text) {
+            return Ok(false);
+        }
+    }
+    let reads = case.reads.saturating_add(1);
+    let writes = case.writes.saturating_add(1);
+    let last = run_slowly(rt, case, reads, writes)?;
+    Ok(last.status == whole.status && last.text == whole.text)
+}
+
+/// Whether a text is a front of another that is longer.
+fn is_true_front(front: &[u8], text: &[u8]) -> bool {
+    front.len() < text.len() && text.starts_with(front)
+}
+
+/// The first worked scene and a message that is shown, seven bytes a call.
+#[test]
+fn each_call_of_a_slow_source_and_sink_fails_in_turn(rt: HostRuntime) -> Result<(), Fail> {
+    let case = Slow {
+        word: "run",
+        input: b"open s\npump 9\nwrite A.s 68,69\npump 2\nread B.s 9\n",
+        most: 7,
+        reads: 8,
+        writes: 100,
+    };
+    assert!(rt; each_call_fails_in_turn(&rt, &case)?);
+    let case = Slow {
+        word: "show",
+        input: b"# cut off\nclc e2d4c3d901\n",
+        most: 7,
+        reads: 5,
+        writes: 2,
+    };
+    assert!(rt; each_call_fails_in_turn(&rt, &case)?);
+    Ok(())
+}
+
+/// A scene whose text has more than two pages.
+#[test]
+fn each_call_over_many_pages_fails_in_turn(rt: HostRuntime) -> Result<(), Fail> {
+    let mut input = Vec::new(rt.alloc());
+    for _ in 0..5_000u32 {
+        input.extend_from_slice(b"read A.s 1\n")?;
+    }
+    let case = Slow {
+        word: "run",
+        input: &input,
+        most: 1_000_000,
+        reads: 15,
+        writes: 3,
+    };
+    assert!(rt; each_call_fails_in_turn(&rt, &case)?);
     Ok(())
 }

@@ -1,20 +1,23 @@
 //! The top call: from words and an input to the text that is written, and the status.
-ghost use Rattle.std.specs.Prelude.{◌≡◌, ◌≢◌, ◌≤◌, ◌++◌, ℕ, [], length, map, take, IfOk, OnOk, Err, Some};
-ghost use Rattle.byte_port.specs.Causes.{Rose, Grew};
+ghost use Rattle.std.specs.Prelude.{◌≡◌, ◌≢◌, ◌≤◌, ◌<◌, ◌^◌, ◌⊎◌, ℕ, List, [], length, map, Some};
+ghost use Rattle.byte_port.specs.Causes.{Rose, HasCause};
+ghost use Rattle.byte_port.specs.Pages.{Wrote};
 ghost use Rattle.scene_text.specs.Scenes.{plain, IsSound};
-ghost use Rattle.scene_text.specs.declared.faults.SceneFault.TheVariants as faults;
 ghost use Rattle.smcr_cli.specs.Runs.{run_of};
-ghost use Rattle.smcr_cli.specs.Answers.{kind_text, refused_text, refusal_text, IsDue};
+ghost use Rattle.smcr_cli.specs.Answers.{kind_text, reason_text, refused_text, refusal_text, refusal_answer, Puts, is_put, Sends, IsCaused};
+ghost use Rattle.smcr_cli.specs.Prints.{printed};
+ghost use Rattle.smcr_cli.specs.Shares.{IsListed};
 ghost use Rattle.smcr_cli.specs.Histories.{HasRun, WroteHistory};
-ghost use Rattle.smcr_cli.specs.Top.{command_named, command_of, answer_to, ran_answer, run_answer, Finishes, Tells};
+ghost use Rattle.smcr_cli.specs.Top.{command_named, command_of, answer_to, history_answer, ran_answer, run_answer, Finishes, Serves, Tells, IsGood};
 
-use crate::print::{Texts, push_history};
+use crate::print::{Listed, Texts, list_all, put_history};
 use crate::run::run_lines;
 use crate::show::show;
-use crate::spell::{push_number, push_text};
-use byte_port::{InputFault, Sink, Source, read_input, write_all};
+use crate::spell::{put_number, put_text};
+use byte_port::{Failed, InputFault, Page, Sink, Source, read_input, write_all};
+use pipe_model::{Entry, StepFault};
 use scene_text::{LineKind, Scene, SceneFault, read_scene};
-use std::alloc::{AllocError, Global};
+use std::alloc::Global;
 use world_core::{NewFault, World};
 
 /// An input has at most so many bytes.
@@ -70,34 +73,69 @@ fn kind_word(kind: LineKind) -> &'static str
     }
 }
 
-/// Appends the line that says which line is refused, and for what.
-fn push_refused(out: &mut Vec<u8>, line: u32, what: &str) -> Result<(), AllocError>
-    ensures { OnOk result (out.new.items ≡ out.old.items ++ refused_text line what.now) }
+/// Puts what a line is refused for.
+#[tactic(auto, using(byte_port::proofs::Paging::pieces))]
+fn put_reason<K: Sink>(page: &mut Page, sink: &mut K, what: &str) -> Result<(), Failed>
+    ensures wrote { Wrote result (K.held sink.old) page.old (K.held sink.new) page.new (reason_text what.now) }
+    ensures cause { HasCause (K.faults sink.old) (K.faults sink.new) result }
 {
-    push_text(out, "line ")?;
-    push_number(out, line as u64)?;
-    push_text(out, ": ")?;
-    push_text(out, what)?;
-    push_text(out, "\n")
+    put_text(page, sink, ": ")?;
+    put_text(page, sink, what)?;
+    put_text(page, sink, "\n")
 }
 
-/// Appends what there is to say of a scene that is refused.
-pub fn push_refusal(out: &mut Vec<u8>, fault: &SceneFault) -> Result<(), AllocError>
-    ensures { OnOk result (out.new.items ≡ out.old.items ++ refusal_text fault.now) }
+/// Puts the line that says which line is refused, and for what.
+#[tactic(auto, using(byte_port::proofs::Paging::pieces))]
+fn put_refused<K: Sink>(page: &mut Page, sink: &mut K, line: u32, what: &str) -> Result<(), Failed>
+    ensures wrote { Wrote result (K.held sink.old) page.old (K.held sink.new) page.new (refused_text line what.now) }
+    ensures cause { HasCause (K.faults sink.old) (K.faults sink.new) result }
+{
+    put_text(page, sink, "line ")?;
+    put_number(page, sink, line as u64)?;
+    put_reason(page, sink, what)
+}
+
+/// Puts what there is to say of a scene that is refused.
+#[tactic(auto, using(byte_port::proofs::Paging::pieces))]
+pub fn put_refusal<K: Sink>(page: &mut Page, sink: &mut K, fault: &SceneFault) -> Result<(), Failed>
+    ensures wrote { Wrote result (K.held sink.old) page.old (K.held sink.new) page.new (refusal_text fault.now) }
+    ensures cause { HasCause (K.faults sink.old) (K.faults sink.new) result }
 {
     match *fault {
         SceneFault::NoMemory => Ok(()),
-        SceneFault::BadLine { line, kind } => push_refused(out, line, kind_word(kind)),
-        SceneFault::TooMany { line, .. } => push_refused(out, line, "too many"),
+        SceneFault::BadLine { line, kind } => put_refused(page, sink, line, kind_word(kind)),
+        SceneFault::TooMany { line, .. } => put_refused(page, sink, line, "too many"),
     }
 }
 
-/// Runs a scene, and appends the text of its history.
-fn run_scene(alloc: Global, scene: Scene, out: &mut Vec<u8>) -> Result<Status, AllocError>
+/// Puts the text of a history, with all that takes memory listed before.
+fn put_ran<K: Sink>(
+    page: &mut Page,
+    sink: &mut K,
+    texts: &Texts<'_>,
+    history: &[Entry],
+    listed: &Listed,
+    stop: Option<StepFault>,
+) -> Status
+    requires few { length history.now < 2 ^ 32 }
+    requires listed { IsListed listed.now history.now }
+    ensures answer { Puts result (history_answer (printed texts.now) history.now stop) (K.held sink.old) page.old (K.held sink.new) page.new }
+    ensures cause { IsCaused (K.faults sink.old) (K.faults sink.new) result }
+{
+    match put_history(page, sink, texts, history, listed, stop) {
+        Ok(()) => match stop {
+            None => Status::Ok,
+            Some(_) => Status::Spent,
+        },
+        Err(_) => Status::WriteFault,
+    }
+}
+
+/// Runs a scene, and puts the text of its history.
+fn run_scene<K: Sink>(alloc: Global, scene: Scene, page: &mut Page, sink: &mut K) -> Status
     requires sound { IsSound (plain scene) }
-    requires empty { out.old.items ≡ [] }
-    ensures answer { IfOk result (λ status. record { status = status; text = out.new.items } ≡ ran_answer (plain scene) (run_of (plain scene))) }
-    ensures due { IfOk result (λ status. IsDue status) }
+    ensures answer { Puts result (ran_answer (plain scene) (run_of (plain scene))) (K.held sink.old) page.old (K.held sink.new) page.new }
+    ensures cause { IsCaused (K.faults sink.old) (K.faults sink.new) result }
 {
     let Scene {
         setup,
@@ -109,55 +147,100 @@ fn run_scene(alloc: Global, scene: Scene, out: &mut Vec<u8>) -> Result<Status, A
     } = scene;
     let mut world = match World::new(alloc, &setup, payload, room) {
         Ok(world) => world,
-        Err(NewFault::NoMemory) => return Err(AllocError),
+        Err(NewFault::NoMemory) => return Status::NoMemory,
         Err(NewFault::BadSetup { .. }) => unreachable!(),
     };
     let stop = run_lines(&mut world, &lines).err();
+    let listed = match list_all(alloc, world.history()) {
+        Ok(listed) => listed,
+        Err(_) => return Status::NoMemory,
+    };
     let texts = Texts {
         names: names.keys().as_slice(),
         actors: &actors,
         payload: world.payload(),
         heard: world.heard(),
     };
-    push_history(alloc, out, &texts, world.history(), stop)?;
-    Ok(match stop {
-        None => Status::Ok,
-        Some(_) => Status::Spent,
-    })
+    put_ran(page, sink, &texts, world.history(), &listed, stop)
 }
 
-/// Reads an input as a scene, runs it, and appends what there is to say.
-fn run(alloc: Global, input: &[u8], out: &mut Vec<u8>) -> Result<Status, AllocError>
-    requires few { length input.now ≤ MOST_INPUT_BYTES }
-    requires empty { out.old.items ≡ [] }
-    ensures answer { IfOk result (λ status. record { status = status; text = out.new.items } ≡ run_answer input.now) }
-    ensures due { IfOk result (λ status. IsDue status) }
+/// Puts what there is to say of a text that is refused.
+pub fn refuse<K: Sink>(page: &mut Page, sink: &mut K, fault: SceneFault) -> Status
+    ensures answer { Puts result (refusal_answer fault) (K.held sink.old) page.old (K.held sink.new) page.new }
+    ensures cause { IsCaused (K.faults sink.old) (K.faults sink.new) result }
 {
-    match read_scene(alloc, input) {
-        Ok(scene) => run_scene(alloc, scene, out),
-        Err(SceneFault::NoMemory) => Err(AllocError),
-        Err(fault) => {
-            push_refusal(out, &fault)?;
-            Ok(Status::Refused)
-        }
+    match put_refusal(page, sink, &fault) {
+        Ok(()) => Status::Refused,
+        Err(_) => Status::WriteFault,
     }
 }
 
-/// Makes the answer of a command to an input.
-fn answer(
+/// Reads an input as a scene, runs it, and puts what there is to say.
+fn run<K: Sink>(alloc: Global, input: &[u8], page: &mut Page, sink: &mut K) -> Status
+    requires few { length input.now ≤ MOST_INPUT_BYTES }
+    ensures answer { Puts result (run_answer input.now) (K.held sink.old) page.old (K.held sink.new) page.new }
+    ensures cause { IsCaused (K.faults sink.old) (K.faults sink.new) result }
+{
+    match read_scene(alloc, input) {
+        Ok(scene) => run_scene(alloc, scene, page, sink),
+        Err(SceneFault::NoMemory) => Status::NoMemory,
+        Err(fault) => refuse(page, sink, fault),
+    }
+}
+
+/// Puts the answer of a command to an input.
+fn answer<K: Sink>(
     alloc: Global,
     command: Command,
     input: &[u8],
-    out: &mut Vec<u8>,
-) -> Result<Status, AllocError>
+    page: &mut Page,
+    sink: &mut K,
+) -> Status
     requires few { length input.now ≤ MOST_INPUT_BYTES }
-    requires empty { out.old.items ≡ [] }
-    ensures answer { IfOk result (λ status. record { status = status; text = out.new.items } ≡ answer_to command input.now) }
-    ensures due { IfOk result (λ status. IsDue status) }
+    ensures answer { Puts result (answer_to command input.now) (K.held sink.old) page.old (K.held sink.new) page.new }
+    ensures cause { IsCaused (K.faults sink.old) (K.faults sink.new) result }
 {
     match command {
-        Command::Run => run(alloc, input, out),
-        Command::Show => show(alloc, input, out),
+        Command::Run => run(alloc, input, page, sink),
+        Command::Show => show(alloc, input, page, sink),
+    }
+}
+
+/// Whether the whole text of an answer was put.
+fn is_put(status: Status) -> bool
+    ensures { result ≡ is_put status }
+{
+    match status {
+        Status::Ok | Status::Refused | Status::Spent => true,
+        Status::NoMemory
+        | Status::Usage
+        | Status::ReadFault
+        | Status::WriteFault
+        | Status::TooLong => false,
+    }
+}
+
+/// Puts the answer of a command on a page, and sends it.
+#[tactic(auto, using(crate::proofs::Sent::kept, crate::proofs::Sent::sent, crate::proofs::Sent::unsent, crate::proofs::Sent::caused_later, crate::proofs::Sent::caused_since))]
+fn send_answer<K: Sink>(
+    alloc: Global,
+    command: Command,
+    input: &[u8],
+    page: &mut Page,
+    sink: &mut K,
+) -> Status
+    requires few { length input.now ≤ MOST_INPUT_BYTES }
+    requires empty { page.old ≡ [] }
+    ensures answer { Sends result (answer_to command input.now) (K.held sink.old) (K.held sink.new) }
+    ensures cause { IsCaused (K.faults sink.old) (K.faults sink.new) result }
+{
+    let status = answer(alloc, command, input, page, sink);
+    if !is_put(status) {
+        return status;
+    }
+    match page.flush(sink) {
+        Ok(()) => status,
+        Err(_) => Status::WriteFault,
     }
 }
 
@@ -205,9 +288,45 @@ fn finish<K: Sink>(sink: &mut K, text: &[u8], status: Status) -> Status
     }
 }
 
+/// Answers a command with the input of the source. The page is made before the input is read.
+fn serve<S: Source, K: Sink>(
+    alloc: Global,
+    command: Command,
+    source: &mut S,
+    sink: &mut K,
+) -> Status
+    ensures told { Serves result command (S.left source.old) (K.held sink.old) (K.held sink.new) }
+    ensures read { result ≡ Status.ReadFault → Rose (S.faults source.old) (S.faults source.new) }
+    ensures write { result ≡ Status.WriteFault → Rose (K.faults sink.old) (K.faults sink.new) }
+{
+    let Ok(mut page) = Page::new(alloc) else {
+        return Status::NoMemory;
+    };
+    let mut input = Vec::new(alloc);
+    match read_input(source, MOST_INPUT_BYTES as usize, &mut input) {
+        Ok(()) => send_answer(alloc, command, &input, &mut page, sink),
+        Err(InputFault::NoMemory) => Status::NoMemory,
+        Err(InputFault::Failed) => Status::ReadFault,
+        Err(InputFault::TooLong) => finish(sink, b"too long\n", Status::TooLong),
+    }
+}
+
+/// Does what the words ask for.
+fn obey<S: Source, K: Sink>(alloc: Global, words: &[&str], source: &mut S, sink: &mut K) -> Status
+    ensures told { Tells result (map (λ w. w.now) words.now) (S.left source.old) (K.held sink.old) (K.held sink.new) }
+    ensures read { result ≡ Status.ReadFault → Rose (S.faults source.old) (S.faults source.new) }
+    ensures write { result ≡ Status.WriteFault → Rose (K.faults sink.old) (K.faults sink.new) }
+{
+    match command_of(words) {
+        Some(command) => serve(alloc, command, source, sink),
+        None => finish(sink, b"usage: smcr run|show\n", Status::Usage),
+    }
+}
+
 /// Does what the words ask for with the input of the source, writes the text to the sink, and says
-/// how it ended. Nothing is written before all that there is to write is known. What a run writes is
-/// the text of a lawful history.
+/// how it ended. Nothing is written before all memory is there. What a run writes is the text of a
+/// lawful history, and a good input of a command is answered to its end unless memory, the source or
+/// the sink fails.
 pub fn smcr<S: Source, K: Sink>(
     alloc: Global,
     words: &[&str],
@@ -219,21 +338,10 @@ pub fn smcr<S: Source, K: Sink>(
         → WroteHistory (S.left source.old) (K.held sink.old) (K.held sink.new) }
     ensures read { result ≡ Status.ReadFault → Rose (S.faults source.old) (S.faults source.new) }
     ensures write { result ≡ Status.WriteFault → Rose (K.faults sink.old) (K.faults sink.new) }
+    ensures complete { (command : Command) (input : List ℕ) → command_of (map (λ w. w.now) words.now) ≡ Some command
+        → S.left source.old ≡ Some input → IsGood command input
+        → (Rose (S.faults source.old) (S.faults source.new) → ⊥) → (Rose (K.faults sink.old) (K.faults sink.new) → ⊥)
+        → (result ≡ Status.Ok) ⊎ (result ≡ Status.NoMemory) }
 {
-    let command = match command_of(words) {
-        Some(command) => command,
-        None => return finish(sink, b"usage: smcr run|show\n", Status::Usage),
-    };
-    let mut input = Vec::new(alloc);
-    match read_input(source, MOST_INPUT_BYTES as usize, &mut input) {
-        Ok(()) => {}
-        Err(InputFault::NoMemory) => return Status::NoMemory,
-        Err(InputFault::Failed) => return Status::ReadFault,
-        Err(InputFault::TooLong) => return finish(sink, b"too long\n", Status::TooLong),
-    }
-    let mut text = Vec::new(alloc);
-    match answer(alloc, command, &input, &mut text) {
-        Ok(status) => finish(sink, &text, status),
-        Err(_) => Status::NoMemory,
-    }
+    obey(alloc, words, source, sink)
 }
