@@ -22,9 +22,9 @@ pub use Rattle.wire_laws.proofs.Agreement.Posts.{all-own, end-other, end-own, ne
 -- which of some messages go on a link
 pub use Rattle.wire_laws.proofs.Agreement.Step.{all-on, on_it}
 -- both halves of a connection before and after an entry, what it posts of an end on a link, and what the end then sends
-pub use Rattle.wire_laws.proofs.Agreement.Ends.{Mid, Now, Then, b-offered, draft-fabric, draft-items, news-own, none-sends, offered-now, one-sends, then-one, tokens-else}
+pub use Rattle.wire_laws.proofs.Agreement.Ends.{Mid, Now, Then, idle-any, mid-counts, mid-sends, b-offered, draft-fabric, draft-items, news-own, none-sends, offered-now, one-sends, then-one, tokens-else}
 -- the deeds of an entry
-pub use Rattle.wire_laws.proofs.Agreement.Way.{deed-shape}
+pub use Rattle.wire_laws.proofs.Agreement.Way.{alive-not-lost, deed-shape}
 -- each part goes on being one that can be
 pub use Rattle.wire_laws.proofs.Agreement.Feasible.{feasible-step}
 -- a connection that was offered keeps its group
@@ -33,3 +33,5 @@ pub use Rattle.wire_laws.proofs.Agreement.Agree.{now-owed, same-group, up-offere
 pub use Rattle.wire_laws.proofs.Agreement.Owed.{Holds, holds}
 -- on which link an end is that is up
 pub use Rattle.wire_laws.proofs.Agreement.Left.{link-turn}
+-- whose the first messages on a link are
+pub use Rattle.wire_laws.proofs.Agreement.Step.{first-is-here, landed-is-here}

@@ -1,4 +1,5 @@
 pub mod Agreement
 pub mod Heard
 pub mod Late
+pub mod Memory
 pub mod Writes

@@ -5,6 +5,7 @@
 //! RMBs and sockets and for all events.
 #![tactic(auto)]
 
+mod bytes;
 mod drops;
 mod histories;
 mod landings;
@@ -12,6 +13,10 @@ mod resets;
 mod steps;
 mod wires;
 
+pub use bytes::{
+    landed_bytes_stand_at_their_places, reads_hand_out_what_stands,
+    told_bytes_stand_at_their_places,
+};
 pub use drops::dropped_messages_come_late;
 pub use histories::{
     lendings_are_always_done_with, no_bytes_ever_come_after_a_lending,

@@ -1,10 +1,10 @@
 -- Each write that waits on a link which its side has not lost is one of an end that is up and on that link: behind it stand the message for what it writes and those for all that the end has sent later.
-use Rattle.std.proofs.Common.{List, [], ap, append_assoc, arith, drop, false, filter, filter_map, inl, inr, length, map, refl, slice_get, subst, suc, sym, true, true≢false, ℕ, ◌&&◌, ◌++◌, ◌+◌, ◌-◌, ◌∙◌, ◌∷◌, ◌≡◌, ◌≤◌, ◌⊎◌}
-use Rattle.std.specs.Prelude.{Some, is_some, option_and_then, unwrap_or}
+use Rattle.std.proofs.Common.{List, [], ap, append_assoc, arith, drop, false, filter, filter_map, inl, inr, length, map, refl, slice_get, subst, suc, sym, true, true≢false, ℕ, ◌%◌, ◌&&◌, ◌++◌, ◌+◌, ◌-◌, ◌∙◌, ◌∷◌, ◌≡◌, ◌≤◌, ◌⊎◌}
+use Rattle.std.specs.Prelude.{Some, is_some, option_and_then, option_map, unwrap_or}
 use Rattle.std.proofs.lemmas.List.{map-append}
 use Rattle.std.proofs.lemmas.Nat.{pow_pos}
 use Rattle.std.proofs.Math.Seq.{drop-append_seam}
-use Rattle.smc_num.specs.Places.{element_start}
+use Rattle.smc_num.specs.Places.{address_of, element_start}
 use Rattle.pipe_model.specs.Calls.{Moves}
 use Rattle.pipe_model.specs.History.{entry_at}
 use Rattle.pipe_model.specs.Keys.{last_bound}
@@ -23,8 +23,9 @@ use Rattle.history_laws.proofs.Posts.{IsControl, all-control, given}
 use Rattle.link_laws.specs.Lasting.{is_lost}
 use Rattle.lending_laws.specs.Ends.{AllPlain, OffersGoOn}
 use Rattle.wire_laws.specs.Agreement.{Agrees, AllOwed, OwedToAgreement}
+use Rattle.wire_laws.specs.Memory.{behind, carried}
 use Rattle.wire_laws.proofs.Agreement.{Holds, Mid, Now, Then, all-on, b-offered, deed-shape, draft-items, feasible-step, holds, news-own, none-sends, now-owed, offered-now, one-sends, own-posted, same-group, then-one, tokens-else, under}
-use Rattle.wire_laws.proofs.Writes.Batches.{EachBefore, IsNewWrite, NewWrite, Tells, before-append, pipes-tell}
+use Rattle.wire_laws.proofs.Writes.Batches.{CarriesOn, EachBefore, IsNewWrite, NewWrite, Tells, before-append, pipes-tell}
 use Rattle.wire_laws.proofs.Writes.NewWrites.{EachBehind, IsPosted, behind-drop, behind-more, new-behind}
 
 -- what an end has sent on a link, on which it still is
@@ -44,6 +45,12 @@ pub record IsAimed (setup : Setup) (payload : List ℕ) (x : Side) (link : LinkI
   pub some : sent.from ≡ sent.snapshot.told → ⊥
   pub from_start : element_start (element_size setup) (offered_place o.offer) ≤ address
   pub to_end : address + len ≤ element_start (element_size setup) (offered_place o.offer) + element_size setup
+  -- from which count of the stream on it carries bytes, and where those go
+  pub count : ℕ
+  pub address_is : address ≡ address_of (element_size setup) (offered_place o.offer) count
+  pub in_one : count % element_size setup + len ≤ element_size setup
+  pub not_before : sent.from ≤ count
+  pub up_to : (count + len) + carried (behind at past) ≡ sent.snapshot.told
   pub following : following_cdc at past ≡ Some (message (element_size setup) o.offer.token sent)
   pub waiting : cdcs x o.offer.token rest ≡ message (element_size setup) o.offer.token sent ∷ map (message (element_size setup) o.offer.token) later
 
@@ -73,6 +80,9 @@ entry-stays e past n le = get-suc e past (length past - n) (length (e ∷ past) 
   where
     get-suc : (x : Entry) (xs : List Entry) (i j : ℕ) → j ≡ suc i → slice_get (x ∷ xs) j ≡ slice_get xs i
     get-suc x xs i j q = ap (λ k. slice_get (x ∷ xs) k) q
+
+pub behind-stays : (e : Entry) (past : List Entry) (at : PostRef) → at.entry ≤ length past → behind at (e ∷ past) ≡ behind at past
+behind-stays e past at le = ap (λ q. unwrap_or (option_map (λ (f : Entry). drop at.post f.posts) q) []) (entry-stays e past at.entry le)
 
 -- what an end has sent with an entry, on its link
 pub record IsNews (h k : Half) (more : List Sent) : Type 0 where
@@ -106,10 +116,10 @@ module _ (setup : Setup) (payload : List ℕ) (e : Entry) (past : List Entry) (b
   Ds s = deeds payload s e.event e.reply past
 
   -- an end sends on its link, or moves off where it is due
-  abbrev Turns : Side → ℕ → Type 0
+  abbrev pub Turns : Side → ℕ → Type 0
   Turns x s = Sends (H x s) (K x s) ⊎ ((is_due_for_move (H x s) ≡ true) × MovesOff (H x s) (K x s))
 
-  turns : (x : Side) (s : ℕ) → Turns x s
+  pub turns : (x : Side) (s : ℕ) → Turns x s
   turns x s = by (deed-shape setup payload e past before made owed beside agree s)
     where
       moved : Ds s ≡ Calls x Moves ∷ [] → ((group : ℕ) → below group s e past ≡ []) → is_due_for_move (M x s) ≡ true → Turns x s
@@ -132,7 +142,7 @@ module _ (setup : Setup) (payload : List ℕ) (e : Entry) (past : List Entry) (b
           (λ c. inl (one-sends setup payload e past before made owed beside x s (Calls y Moves) d (λ q. absurd (true≢false (sym q ∙ c)))))
 
   -- one whose link is not lost sends on it
-  stays-there : (x : Side) (s : ℕ) → is_lost x (H x s).link past ≡ false → Sends (H x s) (K x s)
+  pub stays-there : (x : Side) (s : ℕ) → is_lost x (H x s).link past ≡ false → Sends (H x s) (K x s)
   stays-there x s kept = by (turns x s)
     where
       by : Turns x s → Sends (H x s) (K x s)
@@ -143,7 +153,7 @@ module _ (setup : Setup) (payload : List ℕ) (e : Entry) (past : List Entry) (b
   given-is : (x : Side) (s : ℕ) → given setup payload D past x s ≡ drop (length (H x s).sent) (K x s).sent
   given-is x s = ap (λ is. drop (length (H x s).sent) (half x (pipe T (is ++ P s))).sent) (draft-items setup payload e past before made owed beside (group_on s past) s)
 
-  news-of : (x : Side) (s : ℕ) → IsNews (H x s) (K x s) (given setup payload D past x s)
+  pub news-of : (x : Side) (s : ℕ) → IsNews (H x s) (K x s) (given setup payload D past x s)
   news-of x s = by (turns x s)
     where
       is : (more : List Sent) → (K x s).sent ≡ (H x s).sent ++ more → more ≡ given setup payload D past x s
@@ -153,12 +163,12 @@ module _ (setup : Setup) (payload : List ℕ) (e : Entry) (past : List Entry) (b
       by (inl p) = subst (λ ms. IsNews (H x s) (K x s) ms) (is p.more p.sent_is) (record { sent_is = p.sent_is; on = p.on; none = p.none })
       by (inr q) = let p = q.1 in subst (λ ms. IsNews (H x s) (K x s) ms) (is p.more p.sent_is) (record { sent_is = p.sent_is; on = p.on; none = λ u. absurd (true≢false (sym p.up ∙ u)) })
 
-  few : (x : Side) (s : ℕ) → EachOf (λ m. m.snapshot.told ≤ m.from + Size) (given setup payload D past x s)
+  pub few : (x : Side) (s : ℕ) → EachOf (CarriesOn Size) (given setup payload D past x s)
   few x s =
       let f : IsFeasible T (items payload (group_on s past) s e past ++ P s) = feasible-step setup payload e past before made owed beside agree s in
-      subst (λ ms. EachOf (λ m. m.snapshot.told ≤ m.from + Size) ms) (sym (given-is x s))
-      (each-drop (λ m. m.snapshot.told ≤ m.from + Size) (length (H x s).sent) (K x s).sent
-      (each-more (CarriesFew Size (length (K x s).out)) (λ m. m.snapshot.told ≤ m.from + Size) (λ m c. c.few) (K x s).sent (carries-few T x (items payload (group_on s past) s e past ++ P s) f)))
+      subst (λ ms. EachOf (CarriesOn Size) ms) (sym (given-is x s))
+      (each-drop (CarriesOn Size) (length (H x s).sent) (K x s).sent
+      (each-more (CarriesFew Size (length (K x s).out)) (CarriesOn Size) (λ m c. (c.few, c.forward)) (K x s).sent (carries-few T x (items payload (group_on s past) s e past ++ P s) f)))
 
   -- what the entry posts
   abbrev pub R : Post → List Post → Type 0
@@ -184,58 +194,82 @@ module _ (setup : Setup) (payload : List ℕ) (e : Entry) (past : List Entry) (b
   all-posted link x = new-behind R link x e past [] e.posts 1 refl (omega arith) posts-tell
 
   -- the end in the group of its socket afterwards
-  then-is : (y : Side) (s : ℕ) (o : Offered) → offered y s past ≡ Some o → group_on s (e ∷ past) ≡ group_on s past
+  pub then-is : (y : Side) (s : ℕ) (o : Offered) → offered y s past ≡ Some o → group_on s (e ∷ past) ≡ group_on s past
   then-is y s o f = let b = b-offered setup payload e past before made owed beside y s o f in same-group setup payload e past before made owed beside all agree s b.0 b.1
 
   -- a write that waits goes on doing so
-  pub aim-stays : (x : Side) (link : LinkId) → is_lost x link past ≡ false → (at : PostRef) (address len : ℕ) (rest : List Placed) (s : ℕ) (o : Offered)
-      → IsAimed setup payload x link past at address len rest s o → IsAimed setup payload x link (e ∷ past) at address len (rest ++ News link x) s o
-  aim-stays x link kept at address len rest s o a =
+  pub aim-stays-at : (x : Side) (link : LinkId) → is_lost x link past ≡ false → (at : PostRef) (address len : ℕ) (rest : List Placed) (s : ℕ) (o : Offered)
+      → (a : IsAimed setup payload x link past at address len rest s o) → (b : IsAimed setup payload x link (e ∷ past) at address len (rest ++ News link x) s o) × (b.count ≡ a.count)
+  aim-stays-at x link kept at address len rest s o a =
       let h : IsSentBy link (H x s) a.sent a.later = a.by in
       let p : Sends (H x s) (K x s) = stays-there x s (ap (λ l. is_lost x l past) h.on ∙ kept) in
       let on : (K x s).link ≡ link = p.same h.up ∙ h.on in
       let there : same_link link (K x s).link ≡ true = ap (λ l. same_link link l) on ∙ same-link link in
-      let by : IsSentBy link (K x s) a.sent (a.later ++ p.more) = record { earlier = h.earlier; sent_is = p.sent_is ∙ (ap (λ ms. ms ++ p.more) h.sent_is ∙ append_assoc h.earlier (a.sent ∷ a.later) p.more); up = p.up h.up; on = on } in
-      record {
-        within = omega (arith, a.within);
-        offered_is = beside.kept (other x) s o a.offered_is;
-        sent = a.sent;
-        later = a.later ++ p.more;
-        by = subst (λ g. IsSentBy link (half x (pipe_of setup payload g s (e ∷ past))) a.sent (a.later ++ p.more)) (sym (then-is (other x) s o a.offered_is)) by;
-        some = a.some;
-        from_start = a.from_start;
-        to_end = a.to_end;
-        following = ap (λ q. option_and_then (λ (f : Entry). head (filter_map cdc_in (drop at.post f.posts))) q) (entry-stays e past at.entry a.within) ∙ a.following;
-        waiting = cdcs-append x o.offer.token rest (News link x) ∙
-            (ap (λ cs. cs ++ cdcs x o.offer.token (News link x)) a.waiting ∙
-            (ap (λ cs. (message Size o.offer.token a.sent ∷ map (message Size o.offer.token) a.later) ++ cs) (news-own setup payload e past before made owed beside x s o a.offered_is p.more p.sent_is link ∙ ap (λ ms. map (message Size o.offer.token) ms) (all-on link (K x s).link p.more there p.on)) ∙
-            ap (λ cs. message Size o.offer.token a.sent ∷ cs) (sym (map-append (message Size o.offer.token) a.later p.more))));
-      }
+      let by : IsSentBy link (K x s) a.sent (a.later ++ p.more) = record { earlier = h.earlier; sent_is = p.sent_is ∙ (ap (λ ms. ms ++ p.more) h.sent_is ∙ append_assoc h.earlier (a.sent ∷ a.later) p.more); up = p.up h.up; on = on } in (
+        record {
+          within = omega (arith, a.within);
+          offered_is = beside.kept (other x) s o a.offered_is;
+          sent = a.sent;
+          later = a.later ++ p.more;
+          by = subst (λ g. IsSentBy link (half x (pipe_of setup payload g s (e ∷ past))) a.sent (a.later ++ p.more)) (sym (then-is (other x) s o a.offered_is)) by;
+          some = a.some;
+          from_start = a.from_start;
+          to_end = a.to_end;
+          count = a.count;
+          address_is = a.address_is;
+          in_one = a.in_one;
+          not_before = a.not_before;
+          up_to = ap (λ ps. (a.count + len) + carried ps) (behind-stays e past at a.within) ∙ a.up_to;
+          following = ap (λ q. option_and_then (λ (f : Entry). head (filter_map cdc_in (drop at.post f.posts))) q) (entry-stays e past at.entry a.within) ∙ a.following;
+          waiting = cdcs-append x o.offer.token rest (News link x) ∙
+              (ap (λ cs. cs ++ cdcs x o.offer.token (News link x)) a.waiting ∙
+              (ap (λ cs. (message Size o.offer.token a.sent ∷ map (message Size o.offer.token) a.later) ++ cs) (news-own setup payload e past before made owed beside x s o a.offered_is p.more p.sent_is link ∙ ap (λ ms. map (message Size o.offer.token) ms) (all-on link (K x s).link p.more there p.on)) ∙
+              ap (λ cs. message Size o.offer.token a.sent ∷ cs) (sym (map-append (message Size o.offer.token) a.later p.more))));
+        },
+        refl,
+      )
+
+  pub aim-stays : (x : Side) (link : LinkId) → is_lost x link past ≡ false → (at : PostRef) (address len : ℕ) (rest : List Placed) (s : ℕ) (o : Offered)
+      → IsAimed setup payload x link past at address len rest s o → IsAimed setup payload x link (e ∷ past) at address len (rest ++ News link x) s o
+  aim-stays x link kept at address len rest s o a = (aim-stays-at x link kept at address len rest s o a).0
 
   -- and so is a new one
-  aim-one : (x : Side) (link l : LinkId) → link ≡ l → (at : PostRef) (key address len : ℕ) (rest : List Placed) (posts : List Post) (s : ℕ) (o : Offered) (earlier : List Sent) (m : Sent) (later : List Sent)
-      → at.entry ≤ length (e ∷ past) → offered (other x) s past ≡ Some o → given setup payload D past x s ≡ earlier ++ m ∷ later → Tells Size x o (D ∷ past) l key address len m later posts
-      → following_cdc at (e ∷ past) ≡ head (filter_map cdc_in posts) → cdcs x o.offer.token rest ≡ filter_map (under link x o.offer.token) posts
-      → IsAimed setup payload x link (e ∷ past) at address len rest s o
-  aim-one x link l same at key address len rest posts s o earlier m later within f g t following waiting =
+  pub aim-one-at : (x : Side) (link l : LinkId) → link ≡ l → (at : PostRef) (key address len : ℕ) (rest : List Placed) (posts : List Post) (s : ℕ) (o : Offered) (earlier : List Sent) (m : Sent) (later : List Sent)
+      → at.entry ≤ length (e ∷ past) → offered (other x) s past ≡ Some o → given setup payload D past x s ≡ earlier ++ m ∷ later → (t : Tells Size x o (D ∷ past) l key address len m later posts)
+      → following_cdc at (e ∷ past) ≡ head (filter_map cdc_in posts) → behind at (e ∷ past) ≡ posts → cdcs x o.offer.token rest ≡ filter_map (under link x o.offer.token) posts
+      → (b : IsAimed setup payload x link (e ∷ past) at address len rest s o) × (b.count ≡ t.count)
+  aim-one-at x link l same at key address len rest posts s o earlier m later within f g t following there-behind waiting =
       let n : IsNews (H x s) (K x s) (given setup payload D past x s) = news-of x s in
       let each = each-split (λ k. k.link ≡ (K x s).link) earlier m later (subst (λ ms. EachOf (λ k. k.link ≡ (K x s).link) ms) g n.on) in
       let on : (K x s).link ≡ link = sym each.0 ∙ (sym t.on ∙ sym same) in
       let there : same_link l (K x s).link ≡ true = ap (λ k. same_link l k) (on ∙ same) ∙ same-link l in
       let up : (K x s).up ≡ true = by-bool ((K x s).up ≡ true) (K x s).up (λ u. u) (λ u. absurd (not-none earlier m later (sym g ∙ n.none u))) in
-      let by : IsSentBy link (K x s) m later = record { earlier = (H x s).sent ++ earlier; sent_is = n.sent_is ∙ (ap (λ ms. (H x s).sent ++ ms) g ∙ sym (append_assoc (H x s).sent earlier (m ∷ later))); up = up; on = on } in
-      record {
-        within = within;
-        offered_is = beside.kept (other x) s o f;
-        sent = m;
-        later = later;
-        by = subst (λ g. IsSentBy link (half x (pipe_of setup payload g s (e ∷ past))) m later) (sym (then-is (other x) s o f)) by;
-        some = t.some;
-        from_start = t.from_start;
-        to_end = t.to_end;
-        following = following ∙ t.first;
-        waiting = waiting ∙ (ap (λ k. filter_map (under k x o.offer.token) posts) same ∙ (t.told ∙ ap (λ ms. message Size o.offer.token m ∷ map (message Size o.offer.token) ms) (all-on l (K x s).link later there each.1)));
-      }
+      let by : IsSentBy link (K x s) m later = record { earlier = (H x s).sent ++ earlier; sent_is = n.sent_is ∙ (ap (λ ms. (H x s).sent ++ ms) g ∙ sym (append_assoc (H x s).sent earlier (m ∷ later))); up = up; on = on } in (
+        record {
+          within = within;
+          offered_is = beside.kept (other x) s o f;
+          sent = m;
+          later = later;
+          by = subst (λ g. IsSentBy link (half x (pipe_of setup payload g s (e ∷ past))) m later) (sym (then-is (other x) s o f)) by;
+          some = t.some;
+          from_start = t.from_start;
+          to_end = t.to_end;
+          count = t.count;
+          address_is = t.address_is;
+          in_one = t.in_one;
+          not_before = t.not_before;
+          up_to = ap (λ ps. (t.count + len) + carried ps) there-behind ∙ t.up_to;
+          following = following ∙ t.first;
+          waiting = waiting ∙ (ap (λ k. filter_map (under k x o.offer.token) posts) same ∙ (t.told ∙ ap (λ ms. message Size o.offer.token m ∷ map (message Size o.offer.token) ms) (all-on l (K x s).link later there each.1)));
+        },
+        refl,
+      )
+
+  pub aim-one : (x : Side) (link l : LinkId) → link ≡ l → (at : PostRef) (key address len : ℕ) (rest : List Placed) (posts : List Post) (s : ℕ) (o : Offered) (earlier : List Sent) (m : Sent) (later : List Sent)
+      → at.entry ≤ length (e ∷ past) → offered (other x) s past ≡ Some o → given setup payload D past x s ≡ earlier ++ m ∷ later → Tells Size x o (D ∷ past) l key address len m later posts
+      → following_cdc at (e ∷ past) ≡ head (filter_map cdc_in posts) → behind at (e ∷ past) ≡ posts → cdcs x o.offer.token rest ≡ filter_map (under link x o.offer.token) posts
+      → IsAimed setup payload x link (e ∷ past) at address len rest s o
+  aim-one x link l same at key address len rest posts s o earlier m later within f g t following there-behind waiting = (aim-one-at x link l same at key address len rest posts s o earlier m later within f g t following there-behind waiting).0
 
   -- which side and link a write is of
   pub on-is : (x : Side) (link : LinkId) (from : Side) (l : LinkId) → (same_side x from && passes (same_link link) (Some l)) ≡ true → (x ≡ from) × (link ≡ l)
@@ -257,7 +291,7 @@ module _ (setup : Setup) (payload : List ℕ) (e : Entry) (past : List Entry) (b
         (
           n.offer,
           (
-            aim-one n.x link l on.1 at key address len rest p.posts n.s n.offer n.earlier n.sent n.later p.within n.offered_is n.given_is n.tells p.following (again n.x side n.offer.offer.token),
+            aim-one n.x link l on.1 at key address len rest p.posts n.s n.offer n.earlier n.sent n.later p.within n.offered_is n.given_is n.tells p.following p.behind_is (again n.x side n.offer.offer.token),
             t.key_is ∙ ap (λ k. unwrap_or (last_bound (other n.x) (rmb_at n.offer.offer.address) k (D ∷ past)) 0) (sym (on.1 ∙ t.on)),
           ),
         ),

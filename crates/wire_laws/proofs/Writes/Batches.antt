@@ -1,8 +1,9 @@
 -- What the pipes post with an entry: behind each write stands the CDC message that tells it, and what is sent later follows under the same token.
-use Rattle.std.proofs.Common.{Bool, List, [], ap, append-nil, append_assoc, arith, eq-eqb, false, filter_map, flat_map, if◌then◌else◌, length, length-append, map, nat_le, refl, subst, sym, true, true≢false, ℕ, ◌%◌, ◌&&◌, ◌++◌, ◌+◌, ◌-◌, ◌<◌, ◌==◌, ◌∙◌, ◌∷◌, ◌≡◌, ◌≤◌}
+use Rattle.std.proofs.Common.{Bool, List, [], ap, append-nil, append_assoc, arith, eq-eqb, false, filter_map, flat_map, if◌then◌else◌, length, length-append, map, nat_le, refl, subst, sym, true, true≢false, ℕ, ◌%◌, ◌&&◌, ◌*◌, ◌++◌, ◌+◌, ◌-◌, ◌/◌, ◌<◌, ◌==◌, ◌∙◌, ◌∷◌, ◌≡◌, ◌≤◌}
 use Rattle.std.specs.Prelude.{None, Option, Some, unwrap_or}
 use Rattle.std.specs.List.{cons_option}
-use Rattle.std.proofs.lemmas.Bool.{leb-true}
+use Rattle.std.proofs.lemmas.Bool.{leb-false, leb-true}
+use Rattle.std.proofs.lemmas.Nat.{div-add-mod', mod-mul-add, mod_below}
 use Rattle.std.proofs.lemmas.List.Elements.{filter_map-append}
 use Rattle.std.proofs.Math.Nat.{zero-mod}
 use Rattle.smc_num.specs.Places.{address_of, element_start}
@@ -14,6 +15,7 @@ use Rattle.history_laws.specs.Words.{A, B, Cdc, CdcMessage, EachOf, Entry, LinkI
 use Rattle.history_laws.specs.Wires.{if_meant, message}
 use Rattle.history_laws.proofs.Basics.{same-link, same-self}
 use Rattle.history_laws.proofs.Posts.{filter_map-flat, flat-none, given}
+use Rattle.wire_laws.specs.Memory.{carried}
 use Rattle.wire_laws.proofs.Agreement.{all-own, end-other, end-own, on_it, pipe-of-end, under}
 
 -- that something holds of each of these posts and what stands behind it, others standing behind them all
@@ -37,6 +39,12 @@ pub record Tells (size : ℕ) (x : Side) (o : Offered) (now : List Entry) (link 
   pub some : m.from ≡ m.snapshot.told → ⊥
   pub from_start : element_start size (offered_place o.offer) ≤ address
   pub to_end : address + len ≤ element_start size (offered_place o.offer) + size
+  -- from which count of the stream on it carries bytes, and where those go
+  pub count : ℕ
+  pub address_is : address ≡ address_of size (offered_place o.offer) count
+  pub in_one : count % size + len ≤ size
+  pub not_before : m.from ≤ count
+  pub up_to : (count + len) + carried rest ≡ m.snapshot.told
   pub first : head (filter_map cdc_in rest) ≡ Some (message size o.offer.token m)
   pub told : filter_map (under link x o.offer.token) rest ≡ message size o.offer.token m ∷ map (message size o.offer.token) (on_it link later)
 
@@ -53,8 +61,12 @@ gone-round size start from to pos few = let none : 0 % size ≡ 0 = zero-mod siz
 at-front : (size start n : ℕ) → start ≤ start + n % size
 at-front size start n = omega arith
 
+-- that a message carries bytes forward, no more than an element holds
+abbrev pub CarriesOn : ℕ → Sent → Type 0
+CarriesOn size m = (m.snapshot.told ≤ m.from + size) × (m.from ≤ m.snapshot.told)
+
 -- the posts of one message
-module _ (size : ℕ) (pos : 0 < size) (x : Side) (o : Offered) (now : List Entry) (m : Sent) (later : List Sent) (tail : List Post) (few : m.snapshot.told ≤ m.from + size)
+module _ (size : ℕ) (pos : 0 < size) (x : Side) (o : Offered) (now : List Entry) (m : Sent) (later : List Sent) (tail : List Post) (few : m.snapshot.told ≤ m.from + size) (forward : m.from ≤ m.snapshot.told)
     (behind : (link : LinkId) → filter_map (under link x o.offer.token) tail ≡ map (message size o.offer.token) (on_it link later)) where
   abbrev Key : ℕ
   Key = unwrap_or (last_bound (other x) (rmb_at o.offer.address) m.link now) 0
@@ -85,9 +97,9 @@ module _ (size : ℕ) (pos : 0 < size) (x : Side) (o : Offered) (now : List Entr
     told-is : filter_map (under m.link x o.offer.token) (Told ∷ tail) ≡ message size o.offer.token m ∷ map (message size o.offer.token) (on_it m.link later)
     told-is = ap (λ f. cons_option f (filter_map (under m.link x o.offer.token) tail)) meant ∙ (ap (λ c. c ∷ filter_map (under m.link x o.offer.token) tail) same ∙ ap (λ cs. message size o.offer.token m ∷ cs) (behind m.link))
 
-    one-write : (address len : ℕ) (rest : List Post) → Start ≤ address → address + len ≤ Start + size → head (filter_map cdc_in rest) ≡ Some Spelled → filter_map (under m.link x o.offer.token) rest ≡ filter_map (under m.link x o.offer.token) (Told ∷ tail)
+    one-write : (address len : ℕ) (rest : List Post) (n : ℕ) → address ≡ address_of size At n → n % size + len ≤ size → m.from ≤ n → (n + len) + carried rest ≡ m.snapshot.told → Start ≤ address → address + len ≤ Start + size → head (filter_map cdc_in rest) ≡ Some Spelled → filter_map (under m.link x o.offer.token) rest ≡ filter_map (under m.link x o.offer.token) (Told ∷ tail)
         → BatchTells (Write x m.link Key address len) rest
-    one-write address len rest low high f t = (
+    one-write address len rest n ad one not up low high f t = (
       refl,
       record {
         on = refl;
@@ -95,23 +107,47 @@ module _ (size : ℕ) (pos : 0 < size) (x : Side) (o : Offered) (now : List Entr
         some = some;
         from_start = low;
         to_end = high;
+        count = n;
+        address_is = ad;
+        in_one = one;
+        not_before = not;
+        up_to = up;
         first = f ∙ ap (λ c. Some c) same;
         told = t ∙ told-is;
       },
     )
+
+  -- the count from which on a stream goes round
+  abbrev round-at : ℕ
+  round-at = m.from + (size - m.from % size)
+
+  at-round : round-at % size ≡ 0
+  at-round =
+      let below = mod_below m.from size pos in
+      let regrouped : m.from + (size - m.from % size) ≡ (m.from / size + 1) * size + 0 = omega (arith, div-add-mod' m.from size, below) in
+      ap (λ k. k % size) regrouped ∙ mod-mul-add (m.from / size + 1) size 0 pos
+
+  not-none : (m.from == m.snapshot.told) ≡ false → m.from ≡ m.snapshot.told → ⊥
+  not-none e q = true≢false (sym (eq-eqb m.from m.snapshot.told q) ∙ e)
+
+  beyond : nat_le (m.from % size + (m.snapshot.told - m.from)) size ≡ false → size < m.from % size + (m.snapshot.told - m.from)
+  beyond f = leb-false (m.from % size + (m.snapshot.told - m.from)) size f
 
   writes-tell : (same : Spelled ≡ message size o.offer.token m) (a b : Bool) → (m.from == m.snapshot.told) ≡ a → nat_le (m.from % size + (m.snapshot.told - m.from)) size ≡ b
       → EachBefore BatchTells tail ((if a then [] else if b then Write x m.link Key (address_of size At m.from) (m.snapshot.told - m.from) ∷ [] else
       Write x m.link Key (address_of size At m.from) (size - m.from % size) ∷ Write x m.link Key (address_of size At 0) (m.snapshot.told - m.from - (size - m.from % size)) ∷ []) ++ Told ∷ [])
   writes-tell same true b e f = (tt, tt)
   writes-tell same false true e f = (
-    one-write same (λ q. true≢false (sym (eq-eqb m.from m.snapshot.told q) ∙ e)) (address_of size At m.from) (m.snapshot.told - m.from) _ (at-front size Start m.from) (in-one size Start m.from m.snapshot.told (leb-true (m.from % size + (m.snapshot.told - m.from)) size f)) refl refl,
+    one-write same (not-none e) (address_of size At m.from) (m.snapshot.told - m.from) _ m.from refl (leb-true (m.from % size + (m.snapshot.told - m.from)) size f) (omega arith) (omega (arith, forward))
+        (at-front size Start m.from) (in-one size Start m.from m.snapshot.told (leb-true (m.from % size + (m.snapshot.told - m.from)) size f)) refl refl,
     (tt, tt),
   )
   writes-tell same false false e f = (
-    one-write same (λ q. true≢false (sym (eq-eqb m.from m.snapshot.told q) ∙ e)) (address_of size At m.from) (size - m.from % size) _ (at-front size Start m.from) (to-the-end size Start m.from pos) refl refl,
+    one-write same (not-none e) (address_of size At m.from) (size - m.from % size) _ m.from refl (let below = mod_below m.from size pos in omega (arith, below)) (omega arith) (let far = beyond f in omega (arith, forward, far))
+        (at-front size Start m.from) (to-the-end size Start m.from pos) refl refl,
     (
-      one-write same (λ q. true≢false (sym (eq-eqb m.from m.snapshot.told q) ∙ e)) (address_of size At 0) (m.snapshot.told - m.from - (size - m.from % size)) _ (at-front size Start 0) (gone-round size Start m.from m.snapshot.told pos few) refl refl,
+      one-write same (not-none e) (address_of size At 0) (m.snapshot.told - m.from - (size - m.from % size)) _ round-at (ap (λ k. Start + k) (zero-mod size ∙ sym at-round)) (let r = at-round in omega (arith, r, few)) (omega arith)
+          (let far = beyond f in let below = mod_below m.from size pos in omega (arith, forward, far, below)) (at-front size Start 0) (gone-round size Start m.from m.snapshot.told pos few) refl refl,
       (tt, tt),
     ),
   )
@@ -140,7 +176,7 @@ abbrev pub IsNewWrite : Setup → List ℕ → Entry → List Entry → Post →
 IsNewWrite setup payload e past (Write from link key address len) rest = NewWrite setup payload e past from link key address len rest
 IsNewWrite setup payload e past _ rest = Unit {0}
 
-flat-append : {X Y : Type 0} (f : X → List Y) (xs ys : List X) → flat_map f (xs ++ ys) ≡ flat_map f xs ++ flat_map f ys
+pub flat-append : {X Y : Type 0} (f : X → List Y) (xs ys : List X) → flat_map f (xs ++ ys) ≡ flat_map f xs ++ flat_map f ys
 flat-append f [] ys = refl
 flat-append f (x ∷ xs) ys = ap (λ zs. f x ++ zs) (flat-append f xs ys) ∙ sym (append_assoc (f x) (flat_map f xs) (flat_map f ys))
 
@@ -152,7 +188,7 @@ no-length (x ∷ xs) e = absurd (omega (arith, e))
 last-none : {X : Type 0} (xs ys zs : List X) → xs ++ (ys ++ zs) ≡ ys → zs ≡ []
 last-none xs ys zs e = no-length zs (omega (arith, ap (λ ws. length ws) e, length-append xs (ys ++ zs), length-append ys zs))
 
-module _ (setup : Setup) (payload : List ℕ) (e : Entry) (past : List Entry) (pos : 0 < element_size setup) (few : (x : Side) (s : ℕ) → EachOf (λ m. m.snapshot.told ≤ m.from + element_size setup) (given setup payload e past x s))
+module _ (setup : Setup) (payload : List ℕ) (e : Entry) (past : List Entry) (pos : 0 < element_size setup) (few : (x : Side) (s : ℕ) → EachOf (CarriesOn (element_size setup)) (given setup payload e past x s))
     (alone : (x : Side) (s : ℕ) (o : Offered) → offered (other x) s past ≡ Some o → (link : LinkId) → filter_map (under link x o.offer.token) (connection_posts setup payload e past) ≡ map (message (element_size setup) o.offer.token) (on_it link (given setup payload e past x s))) where
   abbrev Size : ℕ
   Size = element_size setup
@@ -162,20 +198,24 @@ module _ (setup : Setup) (payload : List ℕ) (e : Entry) (past : List Entry) (p
 
   -- the posts of one end, nothing of it standing behind them
   module _ (x : Side) (s : ℕ) (tail : List Post) (none : (o : Offered) → offered (other x) s past ≡ Some o → (link : LinkId) → filter_map (under link x o.offer.token) tail ≡ []) where
-    sents : (o : Offered) → offered (other x) s past ≡ Some o → (earlier ms : List Sent) → given setup payload e past x s ≡ earlier ++ ms → EachOf (λ m. m.snapshot.told ≤ m.from + Size) ms → EachBefore R tail (flat_map (sent_posts Size x (Some o) (e ∷ past)) ms)
+    -- what stands behind some of them is what is sent later
+    pub later-behind : (o : Offered) → offered (other x) s past ≡ Some o → (ms : List Sent) (link : LinkId) → filter_map (under link x o.offer.token) (flat_map (sent_posts Size x (Some o) (e ∷ past)) ms ++ tail) ≡ map (message Size o.offer.token) (on_it link ms)
+    later-behind o f ms link =
+        filter_map-append (under link x o.offer.token) (flat_map (sent_posts Size x (Some o) (e ∷ past)) ms) tail ∙
+        (ap (λ cs. filter_map (under link x o.offer.token) (flat_map (sent_posts Size x (Some o) (e ∷ past)) ms) ++ cs) (none o f link) ∙
+        (append-nil (filter_map (under link x o.offer.token) (flat_map (sent_posts Size x (Some o) (e ∷ past)) ms)) ∙ (filter_map-flat (under link x o.offer.token) (sent_posts Size x (Some o) (e ∷ past)) ms ∙ all-own link x Size o (e ∷ past) ms)))
+
+    sents : (o : Offered) → offered (other x) s past ≡ Some o → (earlier ms : List Sent) → given setup payload e past x s ≡ earlier ++ ms → EachOf (CarriesOn Size) ms → EachBefore R tail (flat_map (sent_posts Size x (Some o) (e ∷ past)) ms)
     sents o f earlier [] q w = tt
     sents o f earlier (m ∷ ms) q w = before-append R (sent_posts Size x (Some o) (e ∷ past) m) (flat_map (sent_posts Size x (Some o) (e ∷ past)) ms) tail
-        (before-more (BatchTells Size pos x o (e ∷ past) m ms (flat_map (sent_posts Size x (Some o) (e ∷ past)) ms ++ tail) w.0 behind) R found (flat_map (sent_posts Size x (Some o) (e ∷ past)) ms ++ tail) (sent_posts Size x (Some o) (e ∷ past) m)
-        (batch-tells Size pos x o (e ∷ past) m ms (flat_map (sent_posts Size x (Some o) (e ∷ past)) ms ++ tail) w.0 behind))
+        (before-more (BatchTells Size pos x o (e ∷ past) m ms (flat_map (sent_posts Size x (Some o) (e ∷ past)) ms ++ tail) w.0.0 w.0.1 behind) R found (flat_map (sent_posts Size x (Some o) (e ∷ past)) ms ++ tail) (sent_posts Size x (Some o) (e ∷ past) m)
+        (batch-tells Size pos x o (e ∷ past) m ms (flat_map (sent_posts Size x (Some o) (e ∷ past)) ms ++ tail) w.0.0 w.0.1 behind))
         (sents o f (earlier ++ m ∷ []) ms (q ∙ sym (append_assoc earlier (m ∷ []) ms)) w.1)
       where
         behind : (link : LinkId) → filter_map (under link x o.offer.token) (flat_map (sent_posts Size x (Some o) (e ∷ past)) ms ++ tail) ≡ map (message Size o.offer.token) (on_it link ms)
-        behind link =
-            filter_map-append (under link x o.offer.token) (flat_map (sent_posts Size x (Some o) (e ∷ past)) ms) tail ∙
-            (ap (λ cs. filter_map (under link x o.offer.token) (flat_map (sent_posts Size x (Some o) (e ∷ past)) ms) ++ cs) (none o f link) ∙
-            (append-nil (filter_map (under link x o.offer.token) (flat_map (sent_posts Size x (Some o) (e ∷ past)) ms)) ∙ (filter_map-flat (under link x o.offer.token) (sent_posts Size x (Some o) (e ∷ past)) ms ∙ all-own link x Size o (e ∷ past) ms)))
+        behind link = later-behind o f ms link
 
-        found : (p : Post) (rest : List Post) → BatchTells Size pos x o (e ∷ past) m ms (flat_map (sent_posts Size x (Some o) (e ∷ past)) ms ++ tail) w.0 behind p rest → R p rest
+        found : (p : Post) (rest : List Post) → BatchTells Size pos x o (e ∷ past) m ms (flat_map (sent_posts Size x (Some o) (e ∷ past)) ms ++ tail) w.0.0 w.0.1 behind p rest → R p rest
         found (Write from l key address len) rest t = record { x = x; from_is = t.0; s = s; offer = o; offered_is = f; earlier = earlier; sent = m; later = ms; given_is = q; tells = t.1 }
         found (Cdc from l c) rest t = tt
         found (Llc from l c) rest t = tt
@@ -188,11 +228,11 @@ module _ (setup : Setup) (payload : List ℕ) (e : Entry) (past : List Entry) (p
         by None f = subst (λ ps. EachBefore R tail ps) (sym (flat-none (sent_posts Size x None (e ∷ past)) (given setup payload e past x s) (λ m. refl))) tt
         by (Some o) f = sents o f [] (given setup payload e past x s) refl (few x s)
 
-  abbrev PostsOf : ℕ → List Post
+  abbrev pub PostsOf : ℕ → List Post
   PostsOf s = pipe_posts setup payload s e past
 
   -- behind the posts of a socket stand none under its tokens
-  none-behind : (front : List ℕ) (s : ℕ) (back : List ℕ) → offered_sockets setup past ≡ front ++ s ∷ back → (x : Side) (o : Offered) → offered (other x) s past ≡ Some o → (link : LinkId) → filter_map (under link x o.offer.token) (flat_map PostsOf back ++ []) ≡ []
+  pub none-behind : (front : List ℕ) (s : ℕ) (back : List ℕ) → offered_sockets setup past ≡ front ++ s ∷ back → (x : Side) (o : Offered) → offered (other x) s past ≡ Some o → (link : LinkId) → filter_map (under link x o.offer.token) (flat_map PostsOf back ++ []) ≡ []
   none-behind front s back q x o f link =
       ap (λ ps. filter_map (under link x o.offer.token) ps) (append-nil (flat_map PostsOf back)) ∙
       last-none (filter_map (under link x o.offer.token) (flat_map PostsOf front)) (map (message Size o.offer.token) (on_it link (given setup payload e past x s))) (filter_map (under link x o.offer.token) (flat_map PostsOf back)) together

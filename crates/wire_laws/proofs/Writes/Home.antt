@@ -27,7 +27,7 @@ contains a (x ∷ xs) (inr i) = let c = contains a xs i in let low = c.1 in (suc
 
 module _ (setup : Setup) (payload : List ℕ) (past : List Entry) (m : IsMadeAll setup payload past) (known : AreOnKnown setup past) where
   -- a link that is not dead stands at both sides
-  alive-stands : (link : LinkId) → is_dead link past ≡ false → (x : Side) → stands link (table_of x past) ≡ true
+  pub alive-stands : (link : LinkId) → is_dead link past ≡ false → (x : Side) → stands link (table_of x past) ≡ true
   alive-stands link alive x =
       let q = or-none (not (stands link (table_of A past))) (not (stands link (table_of B past))) (or-right (is_cut link past) (some_reported link past) alive) in
       by x q.0 q.1
@@ -65,7 +65,7 @@ module _ (setup : Setup) (payload : List ℕ) (past : List Entry) (m : IsMadeAll
   first-home x link c rest alive q = subst (λ o. IsSomeAnd o (PostIsHome setup payload c.at past)) (sym (first-stands past (unlanded link x past) c rest (unlanded-stand link x past) q)) (post-home x link c.at c.post rest alive q)
 
   -- what would land on a slot
-  abbrev Lands : Side → Option Placed → Type 0
+  abbrev pub Lands : Side → Option Placed → Type 0
   Lands x o = (c : Placed) → o ≡ Some c → (link : LinkId) × ((rest : List Placed) × ((is_dead link past ≡ false) × (unlanded link x past ≡ c ∷ rest)))
 
   lands-on : (x : Side) (link : LinkId) → Lands x (landing_on link x past)
@@ -76,7 +76,7 @@ module _ (setup : Setup) (payload : List ℕ) (past : List Entry) (m : IsMadeAll
       by false p [] q f = absurd (none-is c f)
       by false p (d ∷ cs) q f = (link, (cs, (p, q ∙ ap (λ k. k ∷ cs) (some-is d c f))))
 
-  lands-at : (slot : ℕ) (x : Side) → Lands x (landing slot x past)
+  pub lands-at : (slot : ℕ) (x : Side) → Lands x (landing slot x past)
   lands-at slot x c e = by (latest slot past) e
     where
       by : (o : Option LinkId) → option_and_then (λ link. landing_on link x past) o ≡ Some c → (l : LinkId) × ((rest : List Placed) × ((is_dead l past ≡ false) × (unlanded l x past ≡ c ∷ rest)))

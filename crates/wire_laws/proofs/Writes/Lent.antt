@@ -64,7 +64,7 @@ among-posts link x token m ms (c ∷ cs) on e = by c.post on.0 e (λ f. among-po
             inl (ap (λ k. Cdc x link k) (sym (ap (λ ns. unwrap_or (head ns) n) g)) ∙ (ap (λ z. Cdc z link n) (same-is x from b.0) ∙ ap (λ k. Cdc from k n) (link-is link l b.1)))
 
 -- what is behind the first ones that have landed is still to land
-each-behind : (P : Sent → Type 0) (n : ℕ) (ms : List Sent) (m : Sent) (rest : List Sent) → n ≤ length ms → EachOf P (drop n (ms ++ m ∷ rest)) → P m
+pub each-behind : (P : Sent → Type 0) (n : ℕ) (ms : List Sent) (m : Sent) (rest : List Sent) → n ≤ length ms → EachOf P (drop n (ms ++ m ∷ rest)) → P m
 each-behind P zero [] m rest l a = a.0
 each-behind P zero (k ∷ ms) m rest l a = each-behind P zero ms m rest (omega arith) (tail ms a)
   where
@@ -74,7 +74,7 @@ each-behind P zero (k ∷ ms) m rest l a = each-behind P zero ms m rest (omega a
 each-behind P (suc n) [] m rest l a = absurd (omega (arith, l))
 each-behind P (suc n) (k ∷ ms) m rest l a = each-behind P n ms m rest (omega (arith, l)) a
 
-long-map : {X Y : Type 0} (f : X → Y) (xs : List X) → length (map f xs) ≡ length xs
+pub long-map : {X Y : Type 0} (f : X → Y) (xs : List X) → length (map f xs) ≡ length xs
 long-map f [] = refl
 long-map f (x ∷ xs) = ap suc (long-map f xs)
 

@@ -1,12 +1,13 @@
 -- Each write that an entry posts, at its place on a link, with what stands behind it there and in the entry.
 use Rattle.std.proofs.Common.{Bool, List, [], ap, append_assoc, append-nil, arith, cond, drop, false, filter, filter_map, length, length-append, refl, slice_get, subst, suc, sym, true, zero, ℕ, ◌++◌, ◌+◌, ◌-◌, ◌∙◌, ◌∷◌, ◌≡◌, ◌≤◌}
-use Rattle.std.specs.Prelude.{Some, option_and_then}
+use Rattle.std.specs.Prelude.{Some, option_and_then, option_map, unwrap_or}
 use Rattle.std.proofs.Math.Seq.{drop-append-add}
 use Rattle.pipe_model.specs.History.{entry_at}
 use Rattle.pipe_model.specs.Home.{cdc_in, following_cdc}
 use Rattle.history_laws.specs.Words.{Entry, LinkId, Placed, Post, Side, head, is_on, next_number, numbered}
 use Rattle.history_laws.specs.Wires.{cdcs}
 use Rattle.history_laws.proofs.Basics.{drop-none}
+use Rattle.wire_laws.specs.Memory.{behind}
 use Rattle.wire_laws.proofs.Agreement.{news-are, under}
 use Rattle.wire_laws.proofs.Writes.Batches.{EachBefore}
 
@@ -48,12 +49,13 @@ pub record IsPosted (R : Post → List Post → Type 0) (link : LinkId) (x : Sid
   pub posts : List Post
   pub is : R c.post posts
   pub following : following_cdc c.at (e ∷ past) ≡ head (filter_map cdc_in posts)
+  pub behind_is : behind c.at (e ∷ past) ≡ posts
   pub waiting : (token : ℕ) → cdcs x token rest ≡ filter_map (under link x token) posts
 
-entry-new : (e : Entry) (past : List Entry) → entry_at (next_number past) (e ∷ past) ≡ Some e
+pub entry-new : (e : Entry) (past : List Entry) → entry_at (next_number past) (e ∷ past) ≡ Some e
 entry-new e past = let n : length (e ∷ past) - (length past + 1) ≡ 0 = omega arith in ap (λ k. slice_get (e ∷ past) k) n
 
-drop-behind : (xs : List Post) (x : Post) (ys : List Post) (n : ℕ) → n ≡ length xs + 1 → drop n (xs ++ x ∷ ys) ≡ ys
+pub drop-behind : (xs : List Post) (x : Post) (ys : List Post) (n : ℕ) → n ≡ length xs + 1 → drop n (xs ++ x ∷ ys) ≡ ys
 drop-behind xs x ys n e = ap (λ k. drop k (xs ++ x ∷ ys)) e ∙ drop-append-add xs (x ∷ ys) 1 ∙ drop-none ys
 
 module _ (R : Post → List Post → Type 0) (link : LinkId) (x : Side) (e : Entry) (past : List Entry) where
@@ -78,6 +80,7 @@ module _ (R : Post → List Post → Type 0) (link : LinkId) (x : Side) (e : Ent
           is = subst (λ ps. R post ps) (append-nil posts) a.0;
           following = ap (λ o. option_and_then (λ (g : Entry). head (filter_map cdc_in (drop first g.posts))) o) (entry-new e past) ∙
               (ap (λ ps. head (filter_map cdc_in (drop first ps))) p ∙ ap (λ ps. head (filter_map cdc_in ps)) (drop-behind before post posts first f));
+          behind_is = ap (λ o. unwrap_or (option_map (λ (g : Entry). drop first g.posts) o) []) (entry-new e past) ∙ (ap (λ ps. drop first ps) p ∙ drop-behind before post posts first f);
           waiting = λ token. news-are link x token (next_number past) (first + 1) posts;
         },
         r,
