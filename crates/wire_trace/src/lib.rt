@@ -21,7 +21,5 @@ pub use laws::{
 };
 pub use pipe_model::{Placed, Post, PostRef};
 pub use reading::read_trace;
+pub use spelling::put_frame;
 pub use writing::write_trace;
-
-#[cfg(test)]
-mod tests;
