@@ -2,11 +2,11 @@
 use Rattle.std.proofs.Common.{◌≡◌, ◌∙◌, ℕ, suc, ◌<◌, ◌≤◌, ◌==◌, Bool, true, false, cond, List, [], ◌∷◌, ◌++◌, length, filter, nat_lt, refl, sym, ap, subst, arith}
 use Rattle.std.proofs.lemmas.Bool.{ltb-true, ltb-false, lt-ltb, le-ltb, eqb-true, eqb-false}
 use Rattle.cdc_ring.specs.Rings.{Ring, Rises, IsSound, accepted, last_from, last_posted, unposted, posts, completes}
-use Rattle.cdc_ring.specs.Kept.{Kept, StandsFor}
+use Rattle.cdc_ring.specs.Kept.{Kept, Represents}
 use Rattle.cdc_ring.specs.Flights.{Climbs, rising}
 use Rattle.cdc_ring.proofs.Rising.{last-below, rises_up}
 
-pub a_ring_is_sound : (kept : Kept) (ring : Ring) → StandsFor kept ring → IsSound ring
+pub a_ring_is_sound : (kept : Kept) (ring : Ring) → Represents kept ring → IsSound ring
 a_ring_is_sound kept ring stands =
     let len : length kept.bytes ≡ length ring.bytes = ap length stands.bytes in
     let some : 0 < ring.size = omega (arith, stands.whole.some, stands.size) in record {

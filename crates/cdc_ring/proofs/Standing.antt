@@ -9,11 +9,11 @@ use Rattle.smc_num.specs.declared.Cursor.{Cursor}
 use Rattle.smc_num.specs.Numbers.{cursor_of}
 use Rattle.cdc_ring.specs.declared.Piece.{Piece}
 use Rattle.cdc_ring.specs.Rings.{Ring, Rises, accepted, last_from, last_posted, window, accepts, unposted, front_piece, back_piece, posts, completes, held_at}
-use Rattle.cdc_ring.specs.Kept.{Kept, IsKept, StandsFor}
+use Rattle.cdc_ring.specs.Kept.{Kept, IsKept, Represents}
 use Rattle.cdc_ring.proofs.Rising.{rises-further, rises-push, past, rises-past, last-marks, places-past}
 
 -- the window in distances
-pub window_kept : (k : Kept) (ring : Ring) → StandsFor k ring → window ring ≡ k.size - max (length k.bytes) k.unread
+pub window_kept : (k : Kept) (ring : Ring) → Represents k ring → window ring ≡ k.size - max (length k.bytes) k.unread
 window_kept k ring stands =
     let len : length k.bytes ≡ length ring.bytes = ap length stands.bytes in
     omega (arith, len, stands.size, stands.unread)
@@ -30,7 +30,7 @@ kept-accepted k bytes count whole is =
       marks = rises-further 0 k.marks (length k.bytes) (length (k.bytes ++ take count bytes)) whole.marks (omega (arith, len));
     }
 
-pub accepted_more : (k : Kept) (bytes : List ℕ) (count : ℕ) → IsKept k → count ≡ min (length bytes) (k.size - max (length k.bytes) k.unread) → (ring : Ring) → StandsFor k ring → StandsFor (record k { bytes = k.bytes ++ take count bytes; unread = k.unread + count }) (accepts bytes ring)
+pub accepted_more : (k : Kept) (bytes : List ℕ) (count : ℕ) → IsKept k → count ≡ min (length bytes) (k.size - max (length k.bytes) k.unread) → (ring : Ring) → Represents k ring → Represents (record k { bytes = k.bytes ++ take count bytes; unread = k.unread + count }) (accepts bytes ring)
 accepted_more k bytes count whole is ring stands =
     let room : count ≡ min (window ring) (length bytes) = omega (arith, is, window_kept k ring stands) in
     let same : k.bytes ++ take count bytes ≡ ring.bytes ++ take (window ring) bytes = ap₂ (λ xs ys. xs ++ ys) stands.bytes (ap (λ n. take n bytes) room ∙ take_min (window ring) bytes) in
@@ -45,18 +45,18 @@ accepted_more k bytes count whole is ring stands =
     }
 
 -- the last mark is the last posted place
-pub posted_kept : (k : Kept) (ring : Ring) → StandsFor k ring → last_posted ring ≡ ring.completed + last_from 0 k.marks
+pub posted_kept : (k : Kept) (ring : Ring) → Represents k ring → last_posted ring ≡ ring.completed + last_from 0 k.marks
 posted_kept k ring stands =
     ap₂ (λ from ps. last_from from ps) (let e : ring.completed ≡ ring.completed + 0 = omega arith in e) stands.posted ∙ last-marks ring.completed 0 k.marks
 
-pub unposted_kept : (k : Kept) (ring : Ring) → StandsFor k ring → unposted ring ≡ length k.bytes - last_from 0 k.marks
+pub unposted_kept : (k : Kept) (ring : Ring) → Represents k ring → unposted ring ≡ length k.bytes - last_from 0 k.marks
 unposted_kept k ring stands = omega (arith, posted_kept k ring stands, ap length stands.bytes)
 
 -- nothing is to be posted
-pub posted_nothing : (k : Kept) → length k.bytes ≤ last_from 0 k.marks → (ring : Ring) → StandsFor k ring → StandsFor k (posts ring)
+pub posted_nothing : (k : Kept) → length k.bytes ≤ last_from 0 k.marks → (ring : Ring) → Represents k ring → Represents k (posts ring)
 posted_nothing k all ring stands =
     let none : unposted ring ≡ 0 = omega (arith, unposted_kept k ring stands) in
-    subst (λ b. StandsFor k (if b then ring else record ring { posted = ring.posted ++ accepted ring ∷ [] })) (sym (eq-eqb (unposted ring) 0 none)) stands
+    subst (λ b. Represents k (if b then ring else record ring { posted = ring.posted ++ accepted ring ∷ [] })) (sym (eq-eqb (unposted ring) 0 none)) stands
 
 -- all bytes are posted
 pub kept-posted : (k : Kept) → IsKept k → last_from 0 k.marks < length k.bytes → IsKept (record k { marks = k.marks ++ length k.bytes ∷ [] })
@@ -88,11 +88,11 @@ cursor_inside size cursor place some spelled = omega (arith, ap (λ c. c.count) 
 pub cursor_rounds : (size : ℕ) (cursor : Cursor) (place : ℕ) → cursor ≡ cursor_of size place → cursor.wrap < 65_536
 cursor_rounds size cursor place spelled = omega (arith, ap (λ c. c.wrap) spelled)
 
-pub posted_more : (k : Kept) → IsKept k → last_from 0 k.marks < length k.bytes → (ring : Ring) → StandsFor k ring → StandsFor (record k { marks = k.marks ++ length k.bytes ∷ [] }) (posts ring)
+pub posted_more : (k : Kept) → IsKept k → last_from 0 k.marks < length k.bytes → (ring : Ring) → Represents k ring → Represents (record k { marks = k.marks ++ length k.bytes ∷ [] }) (posts ring)
 posted_more k whole more ring stands =
     let some : (unposted ring == 0) ≡ false = ne_eqb (unposted ring) 0 (λ none. omega (arith, none, more, unposted_kept k ring stands)) in
     let end : accepted ring ≡ ring.completed + length k.bytes = omega (arith, ap length stands.bytes) in
-    let is : StandsFor (record k { marks = k.marks ++ length k.bytes ∷ [] }) (record ring { posted = ring.posted ++ accepted ring ∷ [] }) = record {
+    let is : Represents (record k { marks = k.marks ++ length k.bytes ∷ [] }) (record ring { posted = ring.posted ++ accepted ring ∷ [] }) = record {
       whole = kept-posted k whole more;
       size = stands.size;
       completed = stands.completed;
@@ -101,9 +101,9 @@ posted_more k whole more ring stands =
       acked = stands.acked;
       unread = stands.unread;
     } in
-    subst (λ b. StandsFor (record k { marks = k.marks ++ length k.bytes ∷ [] }) (if b then ring else record ring { posted = ring.posted ++ accepted ring ∷ [] })) (sym some) is
+    subst (λ b. Represents (record k { marks = k.marks ++ length k.bytes ∷ [] }) (if b then ring else record ring { posted = ring.posted ++ accepted ring ∷ [] })) (sym some) is
 
-pub completed_more : (k : Kept) (n : ℕ) (cursor : Cursor) → IsKept k → (ring : Ring) (place : ℕ) → StandsFor k ring → cursor ≡ cursor_of ring.size place → ring.completed + n ≡ place → place ≤ accepted ring → StandsFor (record k { completed = cursor; bytes = drop n k.bytes; marks = past n k.marks }) (completes place ring)
+pub completed_more : (k : Kept) (n : ℕ) (cursor : Cursor) → IsKept k → (ring : Ring) (place : ℕ) → Represents k ring → cursor ≡ cursor_of ring.size place → ring.completed + n ≡ place → place ≤ accepted ring → Represents (record k { completed = cursor; bytes = drop n k.bytes; marks = past n k.marks }) (completes place ring)
 completed_more k n cursor whole ring place stands spelled moved to =
     let within : n ≤ length k.bytes = omega (arith, ap length stands.bytes) in
     let count : n ≡ place - ring.completed = omega arith in
@@ -120,7 +120,7 @@ completed_more k n cursor whole ring place stands spelled moved to =
     }
 
 -- where the unposted bytes go
-pub pieces_kept : (k : Kept) (n front : ℕ) (next : Cursor) → n ≡ last_from 0 k.marks → ((place : ℕ) → k.completed ≡ cursor_of k.size place → next ≡ cursor_of k.size (place + n)) → front ≡ min (length k.bytes - n) (k.size - next.count) → (ring : Ring) → StandsFor k ring → ◌≡◌ {A = Piece × Piece} (record { place = next.count; len = front }, record { place = 0; len = length k.bytes - n - front }) (front_piece ring, back_piece ring)
+pub pieces_kept : (k : Kept) (n front : ℕ) (next : Cursor) → n ≡ last_from 0 k.marks → ((place : ℕ) → k.completed ≡ cursor_of k.size place → next ≡ cursor_of k.size (place + n)) → front ≡ min (length k.bytes - n) (k.size - next.count) → (ring : Ring) → Represents k ring → ◌≡◌ {A = Piece × Piece} (record { place = next.count; len = front }, record { place = 0; len = length k.bytes - n - front }) (front_piece ring, back_piece ring)
 pieces_kept k n front next is moves least ring stands =
     let last : last_posted ring ≡ ring.completed + n = omega (arith, is, posted_kept k ring stands) in
     let all : unposted ring ≡ length k.bytes - n = omega (arith, is, unposted_kept k ring stands) in
@@ -143,7 +143,7 @@ moved_round size from k some within = elim (cases_lt (from % size + k) size) [
 ]
 
 -- a place of the element tells how far a held byte is behind the completed ones, but at the end of a full ring
-pub offset_kept : (k : Kept) (place len offset : ℕ) → (k.completed.count ≤ place → offset ≡ place - k.completed.count) → (place < k.completed.count → offset ≡ k.size - k.completed.count + place) → (ring : Ring) (from : ℕ) → StandsFor k ring → place ≡ from % ring.size → ring.completed ≤ from → from + len ≤ accepted ring → (offset ≡ from - ring.completed) ⊎ ((offset ≡ 0) × (len ≡ 0))
+pub offset_kept : (k : Kept) (place len offset : ℕ) → (k.completed.count ≤ place → offset ≡ place - k.completed.count) → (place < k.completed.count → offset ≡ k.size - k.completed.count + place) → (ring : Ring) (from : ℕ) → Represents k ring → place ≡ from % ring.size → ring.completed ≤ from → from + len ≤ accepted ring → (offset ≡ from - ring.completed) ⊎ ((offset ≡ 0) × (len ≡ 0))
 offset_kept k place len offset ahead round ring from stands spelled low high =
     let held : length ring.bytes ≤ ring.size = omega (arith, stands.whole.held, stands.size, ap length stands.bytes) in
     let start : k.completed.count ≡ ring.completed % ring.size = ap (λ c. c.count) stands.completed in
@@ -162,14 +162,14 @@ offset_kept k place len offset ahead round ring from stands spelled low high =
       ]
     ]
 
-pub held_within : (k : Kept) (len offset : ℕ) (ring : Ring) (from : ℕ) → StandsFor k ring → ring.completed ≤ from → from + len ≤ accepted ring → (offset ≡ from - ring.completed) ⊎ ((offset ≡ 0) × (len ≡ 0)) → offset + len ≤ length k.bytes
+pub held_within : (k : Kept) (len offset : ℕ) (ring : Ring) (from : ℕ) → Represents k ring → ring.completed ≤ from → from + len ≤ accepted ring → (offset ≡ from - ring.completed) ⊎ ((offset ≡ 0) × (len ≡ 0)) → offset + len ≤ length k.bytes
 held_within k len offset ring from stands low high (inl at) = omega (arith, at, ap length stands.bytes)
 held_within k len offset ring from stands low high (inr (at, none)) = omega (arith, at, none)
 
-pub held_bytes : (k : Kept) (len offset : ℕ) (ring : Ring) (from : ℕ) → StandsFor k ring → (offset ≡ from - ring.completed) ⊎ ((offset ≡ 0) × (len ≡ 0)) → take len (drop offset k.bytes) ≡ held_at from len ring
+pub held_bytes : (k : Kept) (len offset : ℕ) (ring : Ring) (from : ℕ) → Represents k ring → (offset ≡ from - ring.completed) ⊎ ((offset ≡ 0) × (len ≡ 0)) → take len (drop offset k.bytes) ≡ held_at from len ring
 held_bytes k len offset ring from stands (inl at) = ap₂ (λ n xs. take len (drop n xs)) at stands.bytes
 held_bytes k len offset ring from stands (inr (at, none)) = ap (λ n. take n (drop offset k.bytes)) none ∙ sym (ap (λ n. take n (drop (from - ring.completed) ring.bytes)) none)
 
 -- a mark is kept for each posting
-pub marks_are_postings : (k : Kept) (ring : Ring) → StandsFor k ring → length k.marks ≡ length ring.posted
+pub marks_are_postings : (k : Kept) (ring : Ring) → Represents k ring → length k.marks ≡ length ring.posted
 marks_are_postings k ring stands = sym (ap length stands.posted ∙ length-map k.marks (λ m. ring.completed + m))

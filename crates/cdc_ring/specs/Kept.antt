@@ -26,7 +26,7 @@ pub record IsKept (kept : Kept) : Type 0 where
   pub marks : Rises 0 kept.marks (length kept.bytes)
 
 -- a kept ring stands for a ring in plain counts
-pub record StandsFor (kept : Kept) (ring : Ring) : Type 0 where
+pub record Represents (kept : Kept) (ring : Ring) : Type 0 where
   pub whole : IsKept kept
   pub size : kept.size ≡ ring.size
   pub completed : kept.completed ≡ cursor_of ring.size ring.completed
@@ -38,7 +38,7 @@ pub record StandsFor (kept : Kept) (ring : Ring) : Type 0 where
 -- a cursor stands for a place of the ring, from a given one up to the accepted end
 pub record IsPlaceFrom (start : Ring → ℕ) (kept : Kept) (cursor : Cursor) : Type 0 where
   pub ring : Ring
-  pub stands : StandsFor kept ring
+  pub stands : Represents kept ring
   pub place : ℕ
   pub spelled : cursor ≡ cursor_of ring.size place
   pub from : start ring ≤ place
@@ -47,7 +47,7 @@ pub record IsPlaceFrom (start : Ring → ℕ) (kept : Kept) (cursor : Cursor) : 
 -- a piece of accepted bytes none of which has completed
 pub record IsHeld (piece : Piece) (kept : Kept) : Type 0 where
   pub ring : Ring
-  pub stands : StandsFor kept ring
+  pub stands : Represents kept ring
   pub from : ℕ
   pub spelled : piece.place ≡ from % ring.size
   pub low : ring.completed ≤ from

@@ -3,17 +3,17 @@
 
 ghost use Rattle.std.specs.Prelude.{◌≡◌, ℕ, ◌≤◌, List, [], ◌∷◌, ◌++◌, length};
 ghost use Rattle.cdc_ring.specs.Rings.{Ring, IsSound, accepted, last_from, last_posted, posts, completes};
-ghost use Rattle.cdc_ring.specs.Kept.{Kept, StandsFor};
+ghost use Rattle.cdc_ring.specs.Kept.{Kept, Represents};
 ghost use Rattle.cdc_ring.specs.Flights.{Climbs, rising};
 
 /// What a value stands for is a sound ring.
 pub fn a_ring_is_sound()
-    ensures { (kept : Kept) (ring : Ring) → StandsFor kept ring → IsSound ring }
+    ensures { (kept : Kept) (ring : Ring) → Represents kept ring → IsSound ring }
 {}
 
 /// A value keeps as many marks as there are postings.
 pub fn a_mark_is_kept_for_each_posting()
-    ensures { (kept : Kept) (ring : Ring) → StandsFor kept ring → length kept.marks ≡ length ring.posted }
+    ensures { (kept : Kept) (ring : Ring) → Represents kept ring → length kept.marks ≡ length ring.posted }
 {}
 
 /// After a posting nothing is unposted.

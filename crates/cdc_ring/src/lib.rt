@@ -11,7 +11,7 @@ ghost use Rattle.std.specs.Prelude.{◌≡◌, ℕ, ◌+◌, ◌-◌, ◌%◌, �
 ghost use Rattle.circular_buffer.specs.Buffer.{buffer};
 ghost use Rattle.smc_num.specs.Numbers.{cursor_of};
 ghost use Rattle.cdc_ring.specs.Rings.{Ring, fresh, accepted, last_from, window, accepts, front_piece, back_piece, posts, completes, acks, rewinds, held_at};
-ghost use Rattle.cdc_ring.specs.Kept.{StandsFor, IsPlaceFrom, IsHeld};
+ghost use Rattle.cdc_ring.specs.Kept.{Represents, IsPlaceFrom, IsHeld};
 
 use arrayvec::ArrayVec;
 use circular_buffer::HeapCircularBuffer;
@@ -65,7 +65,7 @@ impl SendRing {
     /// A ring over an element of `size` bytes that has accepted nothing.
     pub fn new(alloc: Global, size: u32) -> Result<SendRing, NoMemory>
         requires { 1 ≤ size }
-        ensures { IfOk result (λ ring. StandsFor ring (fresh size)) }
+        ensures { IfOk result (λ ring. Represents ring (fresh size)) }
     {
         let bytes = HeapCircularBuffer::with_capacity(alloc, size as usize).map_err(|_| NoMemory)?;
         Ok(SendRing {
@@ -80,8 +80,8 @@ impl SendRing {
 
     /// Accepts the front of `bytes` that fits the window, and answers how many bytes that are.
     pub fn accept(&mut self, bytes: &[u8]) -> u32
-        ensures count { (ring : Ring) → StandsFor self.old ring → result ≡ min (length bytes.now) (window ring) }
-        ensures ring { (ring : Ring) → StandsFor self.old ring → StandsFor self.new (accepts bytes.now ring) }
+        ensures count { (ring : Ring) → Represents self.old ring → result ≡ min (length bytes.now) (window ring) }
+        ensures ring { (ring : Ring) → Represents self.old ring → Represents self.new (accepts bytes.now ring) }
     {
         let held = self.bytes.len() as u32;
         let window = self.size - held.max(self.unread);
@@ -94,7 +94,7 @@ impl SendRing {
     /// Where the unposted bytes go in the element. The second piece begins at place 0, and is empty
     /// where they don't go round the element's end.
     pub fn pieces(&self) -> (Piece, Piece)
-        ensures { (ring : Ring) → StandsFor self.now ring → result ≡ (front_piece ring, back_piece ring) }
+        ensures { (ring : Ring) → Represents self.now ring → result ≡ (front_piece ring, back_piece ring) }
     {
         let (size, completed) = (self.size, self.completed);
         let posted = last_mark(&self.marks);
@@ -113,7 +113,7 @@ impl SendRing {
     /// All accepted bytes are posted now. At most 8 postings may be under way.
     pub fn posted(&mut self)
         requires { length self.old.marks < 8 }
-        ensures { (ring : Ring) → StandsFor self.old ring → StandsFor self.new (posts ring) }
+        ensures { (ring : Ring) → Represents self.old ring → Represents self.new (posts ring) }
     {
         let held = self.bytes.len() as u32;
         if last_mark(&self.marks) < held {
@@ -124,8 +124,8 @@ impl SendRing {
     /// The bytes up to the cursor have completed.
     pub fn complete(&mut self, cursor: Cursor)
         requires { IsPlaceFrom (λ ring. ring.completed) self.old cursor }
-        ensures { (ring : Ring) (place : ℕ) → StandsFor self.old ring → cursor ≡ cursor_of ring.size place
-            → ring.completed ≤ place → place ≤ accepted ring → StandsFor self.new (completes place ring) }
+        ensures { (ring : Ring) (place : ℕ) → Represents self.old ring → cursor ≡ cursor_of ring.size place
+            → ring.completed ≤ place → place ≤ accepted ring → Represents self.new (completes place ring) }
     {
         let count = cursor.ahead_of(self.completed, self.size);
         self.marks = marks_past(&self.marks, count);
@@ -136,8 +136,8 @@ impl SendRing {
     /// The peer has read the bytes up to the cursor.
     pub fn acked(&mut self, cursor: Cursor)
         requires { IsPlaceFrom (λ ring. ring.acked) self.old cursor }
-        ensures { (ring : Ring) (place : ℕ) → StandsFor self.old ring → cursor ≡ cursor_of ring.size place
-            → ring.acked ≤ place → place ≤ accepted ring → StandsFor self.new (acks place ring) }
+        ensures { (ring : Ring) (place : ℕ) → Represents self.old ring → cursor ≡ cursor_of ring.size place
+            → ring.acked ≤ place → place ≤ accepted ring → Represents self.new (acks place ring) }
     {
         self.unread -= cursor.ahead_of(self.acked, self.size);
         self.acked = cursor;
@@ -145,7 +145,7 @@ impl SendRing {
 
     /// Goes back to the last completed byte: all bytes behind it are unposted again.
     pub fn rewind(&mut self)
-        ensures { (ring : Ring) → StandsFor self.old ring → StandsFor self.new (rewinds ring) }
+        ensures { (ring : Ring) → Represents self.old ring → Represents self.new (rewinds ring) }
     {
         self.marks.clear();
     }
@@ -153,7 +153,7 @@ impl SendRing {
     /// The bytes of a piece, in two parts.
     pub fn bytes_at(&self, piece: Piece) -> (&[u8], &[u8])
         requires { IsHeld piece self.now }
-        ensures { (ring : Ring) (from : ℕ) → StandsFor self.now ring → piece.place ≡ from % ring.size
+        ensures { (ring : Ring) (from : ℕ) → Represents self.now ring → piece.place ≡ from % ring.size
             → ring.completed ≤ from → from + piece.len ≤ accepted ring
             → result.0.now ++ result.1.now ≡ held_at from piece.len ring }
     {
@@ -163,7 +163,7 @@ impl SendRing {
 
     /// Makes the ring as `new` made it.
     pub fn clear(&mut self)
-        ensures { StandsFor self.new (fresh self.old.size) }
+        ensures { Represents self.new (fresh self.old.size) }
     {
         self.completed = START;
         self.bytes.clear();
@@ -229,43 +229,5 @@ fn part(buffer: &HeapCircularBuffer<u8>, from: usize, len: usize) -> (&[u8], &[u
         (&front[from..from + len], &[])
     } else {
         (&front[from..], &back[..len - rest])
-    }
-}
-
-#[cfg(test)]
-mod tests {
-    use super::*;
-
-    fn piece(place: u32, len: u32) -> Piece {
-        Piece { place, len }
-    }
-
-    #[test]
-    fn bytes_go_round_the_element(rt: HostRuntime) {
-        let Ok(mut ring) = SendRing::new(rt.alloc(), 10) else {
-            assert!(rt; false, "no memory");
-            return;
-        };
-        assert_eq!(rt; ring.accept(&[1, 2, 3, 4, 5, 6, 7, 8]), 8);
-        assert_eq!(rt; ring.pieces(), (piece(0, 8), piece(0, 0)));
-        ring.posted();
-        assert_eq!(rt; ring.accept(&[9, 10, 11]), 2);
-        ring.complete(Cursor { wrap: 0, count: 8 });
-        assert_eq!(rt; ring.accept(&[11]), 0);
-        ring.acked(Cursor { wrap: 0, count: 8 });
-        assert_eq!(rt; ring.accept(&[11, 12, 13]), 3);
-        assert_eq!(rt; ring.pieces(), (piece(8, 2), piece(0, 3)));
-        let (front, back) = ring.bytes_at(Piece { place: 0, len: 3 });
-        assert_eq!(rt;
-            (front.len() + back.len(), front.first().copied()),
-            (3, Some(11))
-        );
-        ring.posted();
-        assert_eq!(rt; ring.pieces(), (piece(3, 0), piece(0, 0)));
-        ring.rewind();
-        assert_eq!(rt; ring.pieces(), (piece(8, 2), piece(0, 3)));
-        ring.clear();
-        assert_eq!(rt; ring.pieces(), (piece(0, 0), piece(0, 0)));
-        assert_eq!(rt; ring.accept(&[0; 11]), 10);
     }
 }

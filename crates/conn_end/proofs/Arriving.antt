@@ -8,7 +8,7 @@ use Rattle.smc_num.specs.Names.{head}
 use Rattle.cdc_wire.specs.declared.CdcMessage.{CdcMessage}
 use Rattle.cdc_ring.specs.Rings.{Ring, last_from, accepted, acks, completes as ring_completes}
 use Rattle.cdc_ring.specs.Flights.{Climbs, rising}
-use Rattle.cdc_ring.specs.Kept.{Kept as KeptRing, StandsFor as RingStandsFor, IsPlaceFrom}
+use Rattle.cdc_ring.specs.Kept.{Kept as KeptRing, Represents as RingRepresents, IsPlaceFrom}
 use Rattle.cdc_ring.proofs.Flying.{a_ring_is_sound, the_oldest_posting_goes, the_last_snapshot_tells_the_last_posted_byte}
 use Rattle.cdc_ring.proofs.Rising.{last-below}
 use Rattle.pipe_model.specs.declared.snapshot.Snapshot.{Snapshot}
@@ -95,13 +95,13 @@ taken_open s h true aborted free = absurd (true≢false (sym (taken_shut s h abo
 taken_open s h false going free = sym (ap (λ b. is_shut (cond b (strikes PeerAbort (record h { taken = s })) (record h { taken = s })).phase) going) ∙ free
 
 -- what is kept after a snapshot was taken
-pub whole_taken : (size : ℕ) (ring more : KeptRing) (count : ℕ) (c d : Course) (s : Snapshot) (h : Half) → Stands size ring count c h → IsTakable size s h → RingStandsFor more (acks s.read (ring_of size ring.bytes c)) → d ≡ record c { taken = s; phase = d.phase } → d.phase ≡ (takes_snapshot s (at_course c h)).phase → IsWhole size more count d
+pub whole_taken : (size : ℕ) (ring more : KeptRing) (count : ℕ) (c d : Course) (s : Snapshot) (h : Half) → Stands size ring count c h → IsTakable size s h → RingRepresents more (acks s.read (ring_of size ring.bytes c)) → d ≡ record c { taken = s; phase = d.phase } → d.phase ≡ (takes_snapshot s (at_course c h)).phase → IsWhole size more count d
 whole_taken size ring more count c d s h stands may rings e phase = subst (λ (x : Course). IsWhole size more count x) (sym e) (record {
   few = w.few;
   most = w.most;
   climbs = w.climbs;
   last = w.last;
-  ring = subst (λ bs. RingStandsFor more (ring_of size bs (record c { taken = s; phase = d.phase }))) (sym rings.bytes) rings;
+  ring = subst (λ bs. RingRepresents more (ring_of size bs (record c { taken = s; phase = d.phase }))) (sym rings.bytes) rings;
   counted = ap (λ bs. c.fin.told + length bs) rings.bytes ∙ w.counted;
   reads = reads;
 })
@@ -116,7 +116,7 @@ whole_taken size ring more count c d s h stands may rings e phase = subst (λ (x
         ⊎_elim (λ aborted. absurd (true≢false (sym (taken_shut s (at_course c h) aborted) ∙ taken)))
         (λ more. omega (arith, w.reads before, more, ap (λ (t : Snapshot). t.told) stands.taken)) may.tells_on
 
-pub taken : (size : ℕ) (ring more : KeptRing) (count : ℕ) (c d : Course) (s : Snapshot) (h : Half) → Stands size ring count c h → IsTakable size s h → RingStandsFor more (acks s.read (ring_of size ring.bytes c)) → d ≡ record c { taken = s; phase = d.phase } → at_course d h ≡ takes_snapshot s (at_course c h) → Stands size more count d (takes_snapshot s h)
+pub taken : (size : ℕ) (ring more : KeptRing) (count : ℕ) (c d : Course) (s : Snapshot) (h : Half) → Stands size ring count c h → IsTakable size s h → RingRepresents more (acks s.read (ring_of size ring.bytes c)) → d ≡ record c { taken = s; phase = d.phase } → at_course d h ≡ takes_snapshot s (at_course c h) → Stands size more count d (takes_snapshot s h)
 taken size ring more count c d s h stands may rings e is =
     stands_there size more count d h (takes_snapshot s h)
     (whole_taken size ring more count c d s h stands may rings e (ap (λ (q : Half). q.phase) is))
@@ -163,12 +163,12 @@ module _ (size : ℕ) (ring : KeptRing) (count : ℕ) (c : Course) (s : Snapshot
   may_complete m spelled = record { ring = ring_of size ring.bytes c; stands = w.ring; place = s.told; spelled = spelled; from = oldest_from; to = omega (arith, oldest_to, w.counted) }
 
   -- what is kept then
-  pub whole_completed : (more : KeptRing) (d : Course) → RingStandsFor more (ring_completes s.told (ring_of size ring.bytes c)) → d ≡ record c { fin = s; flight = drop 1 c.flight; phase = after_completing s c.phase } → IsWhole size more count d
+  pub whole_completed : (more : KeptRing) (d : Course) → RingRepresents more (ring_completes s.told (ring_of size ring.bytes c)) → d ≡ record c { fin = s; flight = drop 1 c.flight; phase = after_completing s c.phase } → IsWhole size more count d
   whole_completed more d rings e = subst (λ (x : Course). IsWhole size more count x) (sym e) (record {
     few = omega (arith, ap length flying, w.few);
     most = w.most;
-    ring = subst (λ ps. RingStandsFor more (record { size = size; completed = s.told; bytes = more.bytes; posted = ps; acked = c.taken.read })) goes
-        (subst (λ bs. RingStandsFor more (record (ring_completes s.told (ring_of size ring.bytes c)) { bytes = bs })) (sym rings.bytes) rings);
+    ring = subst (λ ps. RingRepresents more (record { size = size; completed = s.told; bytes = more.bytes; posted = ps; acked = c.taken.read })) goes
+        (subst (λ bs. RingRepresents more (record (ring_completes s.told (ring_of size ring.bytes c)) { bytes = bs })) (sym rings.bytes) rings);
     counted = omega (arith, ap length rings.bytes, length-drop (s.told - c.fin.told) ring.bytes, oldest_from, oldest_to, w.counted);
     climbs = climbing.1;
     last = last_one;
@@ -179,7 +179,7 @@ module _ (size : ℕ) (ring : KeptRing) (count : ℕ) (c : Course) (s : Snapshot
       goes = the_oldest_posting_goes (ring_of size ring.bytes c) s.told (tolds (drop 1 c.flight)) oldest_from (ap (λ ss. rising c.fin.told (tolds ss)) flying)
 
 -- and for which ends it stands
-pub completed : (size : ℕ) (ring more : KeptRing) (count : ℕ) (c d : Course) (s : Snapshot) (h : Half) → Stands size ring count c h → head h.flight ≡ Some s → RingStandsFor more (ring_completes s.told (ring_of size ring.bytes c)) → d ≡ record c { fin = s; flight = drop 1 c.flight; phase = after_completing s c.phase } → Stands size more count d (record (counts_completed h) { fin = s; flight = drop 1 h.flight; phase = after_completing s h.phase })
+pub completed : (size : ℕ) (ring more : KeptRing) (count : ℕ) (c d : Course) (s : Snapshot) (h : Half) → Stands size ring count c h → head h.flight ≡ Some s → RingRepresents more (ring_completes s.told (ring_of size ring.bytes c)) → d ≡ record c { fin = s; flight = drop 1 c.flight; phase = after_completing s c.phase } → Stands size more count d (record (counts_completed h) { fin = s; flight = drop 1 h.flight; phase = after_completing s h.phase })
 completed size ring more count c d s h stands first rings e =
     let mine : head c.flight ≡ Some s = ap head stands.flight ∙ first in
     let from = oldest_from size ring count c s stands.whole mine in
@@ -200,10 +200,10 @@ completes_check sent h e = ap (λ b. cond b (counts_completed h) (record (counts
 
 -- what a ring makes of a cursor up to which the peer has read, and of one up to which the bytes have completed
 abbrev pub Acks : KeptRing → Cursor → KeptRing → Type 0
-Acks ring m more = (r : Ring) (place : ℕ) → RingStandsFor ring r → m ≡ cursor_of r.size place → r.acked ≤ place → place ≤ accepted r → RingStandsFor more (acks place r)
+Acks ring m more = (r : Ring) (place : ℕ) → RingRepresents ring r → m ≡ cursor_of r.size place → r.acked ≤ place → place ≤ accepted r → RingRepresents more (acks place r)
 
 abbrev pub Completing : KeptRing → Cursor → KeptRing → Type 0
-Completing ring m more = (r : Ring) (place : ℕ) → RingStandsFor ring r → m ≡ cursor_of r.size place → r.completed ≤ place → place ≤ accepted r → RingStandsFor more (ring_completes place r)
+Completing ring m more = (r : Ring) (place : ℕ) → RingRepresents ring r → m ≡ cursor_of r.size place → r.completed ≤ place → place ≤ accepted r → RingRepresents more (ring_completes place r)
 
 module _ (k : Kept) (m : CdcMessage) (plain : Snapshot) (h : Half) (sent : Sent) (l : Lands k m plain h sent) (fresh : sent.check ≡ false) where
   landed_is : plain ≡ sent.snapshot
@@ -212,7 +212,7 @@ module _ (k : Kept) (m : CdcMessage) (plain : Snapshot) (h : Half) (sent : Sent)
   landed_may : IsTakable k.size plain h
   landed_may = subst (λ (s : Snapshot). IsTakable k.size s h) (sym landed_is) (l.taken fresh)
 
-  landed_rings : (more : KeptRing) → Acks k.ring m.read more → RingStandsFor more (acks plain.read (ring_of k.size k.ring.bytes k.course))
+  landed_rings : (more : KeptRing) → Acks k.ring m.read more → RingRepresents more (acks plain.read (ring_of k.size k.ring.bytes k.course))
   landed_rings more acks =
       let s = l.stands in
       let may = landed_may in
@@ -252,7 +252,7 @@ module _ (k : Kept) (m : CdcMessage) (plain : Snapshot) (h : Half) (sent : Sent)
   pub done_requires : IsPlaceFrom (λ r. r.completed) k.ring m.told
   done_requires = may_complete k.size k.ring k.accepted k.course plain l.stands.whole done_mine m.told done_told
 
-  done_rings : (more : KeptRing) → Completing k.ring m.told more → RingStandsFor more (ring_completes plain.told (ring_of k.size k.ring.bytes k.course))
+  done_rings : (more : KeptRing) → Completing k.ring m.told more → RingRepresents more (ring_completes plain.told (ring_of k.size k.ring.bytes k.course))
   done_rings more rings =
       let w = l.stands.whole in
       rings (ring_of k.size k.ring.bytes k.course) plain.told w.ring done_told (oldest_from k.size k.ring k.accepted k.course plain w done_mine)

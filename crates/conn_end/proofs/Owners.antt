@@ -22,7 +22,7 @@ use Rattle.pipe_model.specs.Ends.{Half, fresh, meets_fate}
 use Rattle.pipe_model.specs.Calls.{Told, Plain, Reads, Awaits, is_waiting, half_told}
 use Rattle.conn_end.specs.declared.answers.EndReply.{EndReply}
 use Rattle.conn_end.specs.declared.answers.EndReply.TheVariants.{Wrote, Full, Take, Empty, End, Ended, Done, Reset}
-use Rattle.conn_end.specs.Kept.{Kept, IsKept, StandsFor, at_course}
+use Rattle.conn_end.specs.Kept.{Kept, IsKept, Represents, at_course}
 use Rattle.conn_end.specs.Told.{told_of, awaited, Answers}
 use Rattle.conn_end.proofs.Ends.{stands_there}
 
@@ -34,13 +34,13 @@ drop_zeros : (n : ℕ) (bytes : List ℕ) → drop n (replicate n 0 ++ bytes) �
 drop_zeros zero bytes = refl
 drop_zeros (suc n) bytes = drop_zeros n bytes
 
-pub stands_for_zeros : (k : Kept) → IsKept k → StandsFor k (with_zeros k)
+pub stands_for_zeros : (k : Kept) → IsKept k → Represents k (with_zeros k)
 stands_for_zeros k w =
     let n : ℕ = k.course.fin.told in
     stands_there k.size k.ring k.accepted k.course (record (fresh 1) { out = replicate n 0 ++ k.ring.bytes }) (with_zeros k) w
     (omega (arith, w.counted, length-append (replicate n 0) k.ring.bytes, length-replicate {A = ℕ} n 0)) (sym (drop_zeros n k.ring.bytes)) refl
 
-pub fate_is_its_owners : (k : Kept) (h : Half) (link : LinkId) (stage : LinkPhase) → StandsFor k h → StandsFor k (meets_fate link stage h)
+pub fate_is_its_owners : (k : Kept) (h : Half) (link : LinkId) (stage : LinkPhase) → Represents k h → Represents k (meets_fate link stage h)
 fate_is_its_owners k h link Unused s = s
 fate_is_its_owners k h link Pending s = s
 fate_is_its_owners k h link Live s = s
@@ -90,7 +90,7 @@ may_take_check k token m s w e = record {
   };
 }
 
-pub takable_spelled : (k : Kept) (token : ℕ) (m : CdcMessage) (s : Snapshot) → IsKept k → m ≡ spelled k.size token s → ((h : Half) → StandsFor k h → IsTakable k.size s h) → MayLand k m s
+pub takable_spelled : (k : Kept) (token : ℕ) (m : CdcMessage) (s : Snapshot) → IsKept k → m ≡ spelled k.size token s → ((h : Half) → Represents k h → IsTakable k.size s h) → MayLand k m s
 takable_spelled k token m s w e may = record {
   end = with_zeros k;
   sent = was_sent false s;

@@ -5,7 +5,7 @@ use Rattle.std.proofs.lemmas.List.{drop-drop, length-append, length-map, map-app
 use Rattle.cdc_ring.specs.declared.Piece.{Piece}
 use Rattle.cdc_ring.specs.Rings.{Ring, held_at, last_from, last_posted, accepted, unposted, front_piece, back_piece, posts}
 use Rattle.cdc_ring.specs.Flights.{Climbs, rising}
-use Rattle.cdc_ring.specs.Kept.{Kept as KeptRing, StandsFor as RingStandsFor, IsHeld}
+use Rattle.cdc_ring.specs.Kept.{Kept as KeptRing, Represents as RingRepresents, IsHeld}
 use Rattle.cdc_ring.proofs.Flying.{a_ring_is_sound, the_last_snapshot_tells_the_last_posted_byte, a_snapshot_more_is_a_posting, a_snapshot_without_bytes_is_no_posting, postings_are_no_more_than_snapshots}
 use Rattle.pipe_model.specs.declared.snapshot.Snapshot.{Snapshot}
 use Rattle.pipe_model.specs.Closing.{cause_of, after_posting}
@@ -64,25 +64,25 @@ module _ (size : ℕ) (ring : KeptRing) (count : ℕ) (c : Course) (w : IsWhole 
   no_less s false told = omega (arith, told, w.last, last_within size ring count c w)
 
   -- what is kept once a snapshot was posted
-  pub whole_posted : (more : KeptRing) (d : Course) (s : Snapshot) → length c.flight < c.depth → s.told ≡ cond s.aborted c.last.told count → RingStandsFor more (posts_for s (ring_of size ring.bytes c)) → d ≡ record c { last = s; number = s.number; flight = c.flight ++ s ∷ []; phase = after_posting s c.phase } → IsWhole size more count d
+  pub whole_posted : (more : KeptRing) (d : Course) (s : Snapshot) → length c.flight < c.depth → s.told ≡ cond s.aborted c.last.told count → RingRepresents more (posts_for s (ring_of size ring.bytes c)) → d ≡ record c { last = s; number = s.number; flight = c.flight ++ s ∷ []; phase = after_posting s c.phase } → IsWhole size more count d
   whole_posted more d s room told rings e =
-      let now : RingStandsFor more (record (ring_of size ring.bytes c) { posted = rising c.fin.told (tolds (c.flight ++ s ∷ [])) }) = subst (λ (x : Ring). RingStandsFor more x) (posted_is s s.aborted told) rings in
+      let now : RingRepresents more (record (ring_of size ring.bytes c) { posted = rising c.fin.told (tolds (c.flight ++ s ∷ [])) }) = subst (λ (x : Ring). RingRepresents more x) (posted_is s s.aborted told) rings in
       subst (λ (x : Course). IsWhole size more count x) (sym e) (record {
         few = omega (arith, length-append c.flight (s ∷ []), room);
         most = w.most;
-        ring = subst (λ bs. RingStandsFor more (record { size = size; completed = c.fin.told; bytes = bs; posted = rising c.fin.told (tolds (c.flight ++ s ∷ [])); acked = c.taken.read })) (sym now.bytes) now;
+        ring = subst (λ bs. RingRepresents more (record { size = size; completed = c.fin.told; bytes = bs; posted = rising c.fin.told (tolds (c.flight ++ s ∷ [])); acked = c.taken.read })) (sym now.bytes) now;
         counted = ap (λ bs. c.fin.told + length bs) now.bytes ∙ w.counted;
         climbs = subst (Climbs c.fin.told) (sym (tolds_push c.flight s)) (climbs_push c.fin.told (tolds c.flight) s.told w.climbs (no_less s s.aborted told));
         last = ap (last_from c.fin.told) (tolds_push c.flight s) ∙ last_push c.fin.told (tolds c.flight) s.told;
         reads = λ free. w.reads (open_before_posting s c.phase free);
       })
 
-  pub bytes_stay : (more : KeptRing) (s : Snapshot) → s.told ≡ cond s.aborted c.last.told count → RingStandsFor more (posts_for s (ring_of size ring.bytes c)) → more.bytes ≡ ring.bytes
+  pub bytes_stay : (more : KeptRing) (s : Snapshot) → s.told ≡ cond s.aborted c.last.told count → RingRepresents more (posts_for s (ring_of size ring.bytes c)) → more.bytes ≡ ring.bytes
   bytes_stay more s told rings =
-      let now : RingStandsFor more (record (ring_of size ring.bytes c) { posted = rising c.fin.told (tolds (c.flight ++ s ∷ [])) }) = subst (λ (x : Ring). RingStandsFor more x) (posted_is s s.aborted told) rings in now.bytes
+      let now : RingRepresents more (record (ring_of size ring.bytes c) { posted = rising c.fin.told (tolds (c.flight ++ s ∷ [])) }) = subst (λ (x : Ring). RingRepresents more x) (posted_is s s.aborted told) rings in now.bytes
 
 -- for which ends it stands then
-pub posted : (size : ℕ) (ring more : KeptRing) (count : ℕ) (c d : Course) (s : Snapshot) (h : Half) → Stands size ring count c h → length c.flight < c.depth → s.told ≡ cond s.aborted c.last.told count → RingStandsFor more (posts_for s (ring_of size ring.bytes c)) → d ≡ record c { last = s; number = s.number; flight = c.flight ++ s ∷ []; phase = after_posting s c.phase } → s ≡ present h → Stands size more count d (posts_batch h)
+pub posted : (size : ℕ) (ring more : KeptRing) (count : ℕ) (c d : Course) (s : Snapshot) (h : Half) → Stands size ring count c h → length c.flight < c.depth → s.told ≡ cond s.aborted c.last.told count → RingRepresents more (posts_for s (ring_of size ring.bytes c)) → d ≡ record c { last = s; number = s.number; flight = c.flight ++ s ∷ []; phase = after_posting s c.phase } → s ≡ present h → Stands size more count d (posts_batch h)
 posted size ring more count c d s h stands room told rings e is =
     stands_there size more count d (record h { sent = h.sent ++ batch h ∷ [] }) (posts_batch h)
     (whole_posted size ring count c stands.whole more d s room told rings e)
@@ -130,7 +130,7 @@ piece_held k piece p =
     }
 
 -- and they are those that the end accepted
-pub piece_is : (k : Kept) (piece : Piece) (h : Half) (first : ℕ) (bytes : List ℕ) → HoldsPiece k piece h first → ((r : Ring) (from : ℕ) → RingStandsFor k.ring r → piece.place ≡ from % r.size → r.completed ≤ from → from + piece.len ≤ accepted r → bytes ≡ held_at from piece.len r) → bytes ≡ take piece.len (drop first h.out)
+pub piece_is : (k : Kept) (piece : Piece) (h : Half) (first : ℕ) (bytes : List ℕ) → HoldsPiece k piece h first → ((r : Ring) (from : ℕ) → RingRepresents k.ring r → piece.place ≡ from % r.size → r.completed ≤ from → from + piece.len ≤ accepted r → bytes ≡ held_at from piece.len r) → bytes ≡ take piece.len (drop first h.out)
 piece_is k piece h first bytes p held =
     let s = p.stands in
     let low : k.course.fin.told ≤ first = omega (arith, p.from, ap (λ (t : Snapshot). t.told) s.fin) in

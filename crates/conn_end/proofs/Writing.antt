@@ -4,7 +4,7 @@ use Rattle.std.specs.Prelude.{is_some}
 use Rattle.std.proofs.lemmas.Bool.{eqb-true, eqb-false, ne_eqb}
 use Rattle.std.proofs.lemmas.List.{length-append, drop-append-le}
 use Rattle.cdc_ring.specs.Rings.{window as ring_window, accepts as ring_accepts}
-use Rattle.cdc_ring.specs.Kept.{Kept as KeptRing, StandsFor as RingStandsFor}
+use Rattle.cdc_ring.specs.Kept.{Kept as KeptRing, Represents as RingRepresents}
 use Rattle.pipe_model.specs.declared.reply.Reply.TheVariants.{Wrote as SaysWrote, Full as SaysFull, Ended as SaysEnded}
 use Rattle.pipe_model.specs.declared.snapshot.Snapshot.{Snapshot}
 use Rattle.pipe_model.specs.Words.{is_nil}
@@ -33,7 +33,7 @@ window_is size ring count c h s =
     ap₂ (λ n m. size - (n - m)) (s.whole.counted ∙ s.accepted) (ap₂ (λ (a b : Snapshot). min a.read b.told) s.taken s.fin)
 
 -- what is kept after bytes were accepted
-pub whole_written : (size : ℕ) (ring more : KeptRing) (count n : ℕ) (c : Course) (bytes : List ℕ) → IsWhole size ring count c → n ≡ min (length bytes) (ring_window (ring_of size ring.bytes c)) → RingStandsFor more (ring_accepts bytes (ring_of size ring.bytes c)) → IsWhole size more (count + n) c
+pub whole_written : (size : ℕ) (ring more : KeptRing) (count n : ℕ) (c : Course) (bytes : List ℕ) → IsWhole size ring count c → n ≡ min (length bytes) (ring_window (ring_of size ring.bytes c)) → RingRepresents more (ring_accepts bytes (ring_of size ring.bytes c)) → IsWhole size more (count + n) c
 whole_written size ring more count n c bytes w fits stands =
     let w1 : length more.bytes ≡ length ring.bytes + min (ring_window (ring_of size ring.bytes c)) (length bytes) = ap length stands.bytes ∙ length-append ring.bytes (take (ring_window (ring_of size ring.bytes c)) bytes) ∙ ap (λ k. length ring.bytes + k) (length-take (ring_window (ring_of size ring.bytes c)) bytes) in
     record {
@@ -42,11 +42,11 @@ whole_written size ring more count n c bytes w fits stands =
       climbs = w.climbs;
       last = w.last;
       reads = w.reads;
-      ring = subst (λ bs. RingStandsFor more (ring_of size bs c)) (sym stands.bytes) stands;
+      ring = subst (λ bs. RingRepresents more (ring_of size bs c)) (sym stands.bytes) stands;
       counted = omega (arith, w.counted, w1, fits);
     }
 
-pub written : (size : ℕ) (ring more : KeptRing) (count n : ℕ) (c : Course) (bytes : List ℕ) (h : Half) → Stands size ring count c h → cause_of c.phase ≡ None → is_ended (at_course c h) ≡ false → n ≡ min (length bytes) (ring_window (ring_of size ring.bytes c)) → RingStandsFor more (ring_accepts bytes (ring_of size ring.bytes c)) → Stands size more (count + n) c (accepts size bytes h)
+pub written : (size : ℕ) (ring more : KeptRing) (count n : ℕ) (c : Course) (bytes : List ℕ) (h : Half) → Stands size ring count c h → cause_of c.phase ≡ None → is_ended (at_course c h) ≡ false → n ≡ min (length bytes) (ring_window (ring_of size ring.bytes c)) → RingRepresents more (ring_accepts bytes (ring_of size ring.bytes c)) → Stands size more (count + n) c (accepts size bytes h)
 written size ring more count n c bytes h s none free fits stands =
     let w : ℕ = window size h in
     let same = window_is size ring count c h s in

@@ -6,7 +6,7 @@ use Rattle.cdc_wire.specs.declared.CdcMessage.{CdcMessage}
 use Rattle.pipe_model.specs.declared.snapshot.Snapshot.{Snapshot}
 use Rattle.pipe_model.specs.declared.sent.Sent.{Sent}
 use Rattle.pipe_model.specs.Ends.{Half}
-use Rattle.conn_end.specs.Kept.{Kept, StandsFor}
+use Rattle.conn_end.specs.Kept.{Kept, Represents}
 use Rattle.conn_end.specs.Batches.{message_of}
 
 -- that a message, with the plain snapshot beside it, is the spelling of one that was sent
@@ -25,7 +25,7 @@ pub record IsTakable (size : ℕ) (s : Snapshot) (h : Half) : Type 0 where
 
 -- that a plain end, for which what is kept stands, may take a message
 pub record Lands (k : Kept) (m : CdcMessage) (plain : Snapshot) (h : Half) (sent : Sent) : Type 0 where
-  pub stands : StandsFor k h
+  pub stands : Represents k h
   pub spelling : IsSpelling k.size m plain sent
   pub taken : sent.check ≡ false → IsTakable k.size sent.snapshot h
 
@@ -37,7 +37,7 @@ pub record MayLand (k : Kept) (m : CdcMessage) (plain : Snapshot) : Type 0 where
 
 -- that a message of a plain end is the oldest that has not completed, or is one of validation
 pub record Completes (k : Kept) (m : CdcMessage) (plain : Snapshot) (h : Half) (sent : Sent) : Type 0 where
-  pub stands : StandsFor k h
+  pub stands : Represents k h
   pub spelling : IsSpelling k.size m plain sent
   pub oldest : sent.check ≡ false → head h.flight ≡ Some sent.snapshot
 

@@ -10,7 +10,7 @@ use Rattle.pipe_model.specs.Snapshot.{spelled, validation}
 use Rattle.pipe_model.specs.declared.sent.Sent.{Sent}
 use Rattle.pipe_model.specs.Ends.{Half, present, is_due, batch, check}
 use Rattle.conn_end.specs.declared.answers.Batch.{Batch}
-use Rattle.conn_end.specs.Kept.{Kept, StandsFor}
+use Rattle.conn_end.specs.Kept.{Kept, Represents}
 
 -- the message of an end, spelled under a token
 abbrev pub message_of : ℕ → ℕ → Sent → CdcMessage
@@ -65,7 +65,7 @@ posts_for s ring = if s.aborted then ring else posts ring
 
 -- that an end keeps the bytes of a piece, the first of which has a place in the stream
 pub record HoldsPiece (k : Kept) (piece : Piece) (h : Half) (first : ℕ) : Type 0 where
-  pub stands : StandsFor k h
+  pub stands : Represents k h
   pub place : piece.place ≡ first % k.size
   pub from : h.fin.told ≤ first
   pub to : first + piece.len ≤ length h.out

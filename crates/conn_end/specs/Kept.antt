@@ -3,7 +3,7 @@
 use Rattle.std.specs.Prelude.{◌≡◌, ℕ, ◌+◌, ◌≤◌, Bool, false, List, length, drop, map}
 use Rattle.cdc_ring.specs.Rings.{Ring, last_from}
 use Rattle.cdc_ring.specs.Flights.{Climbs, rising}
-use Rattle.cdc_ring.specs.Kept.{Kept as KeptRing, StandsFor as RingStandsFor}
+use Rattle.cdc_ring.specs.Kept.{Kept as KeptRing, Represents as RingRepresents}
 use Rattle.pipe_model.specs.declared.snapshot.Snapshot.{Snapshot}
 use Rattle.pipe_model.specs.declared.closing.Phase.{Phase}
 use Rattle.pipe_model.specs.Ends.{Half}
@@ -55,7 +55,7 @@ ring_of size bytes c = record { size = size; completed = c.fin.told; bytes = byt
 pub record IsWhole (size : ℕ) (bytes : KeptRing) (count : ℕ) (c : Course) : Type 0 where
   pub few : length c.flight ≤ c.depth
   pub most : c.depth ≤ 8
-  pub ring : RingStandsFor bytes (ring_of size bytes.bytes c)
+  pub ring : RingRepresents bytes (ring_of size bytes.bytes c)
   pub counted : c.fin.told + length bytes.bytes ≡ count
   pub climbs : Climbs c.fin.told (tolds c.flight)
   pub last : last_from c.fin.told (tolds c.flight) ≡ c.last.told
@@ -80,8 +80,8 @@ pub record Agrees (size : ℕ) (ring : KeptRing) (count : ℕ) (c : Course) (all
   pub finished : c.finished ≡ ended
 
 -- that what is kept stands for a plain end; its links and its posted messages are its owner's
-abbrev pub StandsFor : Kept → Half → Type 0
-StandsFor k h = Agrees k.size k.ring k.accepted k.course h.out h.rd h.taken h.fin h.last h.number h.flight h.phase h.finished
+abbrev pub Represents : Kept → Half → Type 0
+Represents k h = Agrees k.size k.ring k.accepted k.course h.out h.rd h.taken h.fin h.last h.number h.flight h.phase h.finished
 
 -- that an end keeps what does not come of calls and news
 pub record SameTerms (old new : Kept) : Type 0 where

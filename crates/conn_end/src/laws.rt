@@ -11,19 +11,19 @@ ghost use Rattle.pipe_model.specs.Calls.{Reads, Awaits, Plain, half_told};
 ghost use Rattle.conn_end.specs.declared.answers.EndReply.{EndReply as Answer};
 ghost use Rattle.pipe_model.specs.Parts.{MayTake};
 ghost use Rattle.conn_end.specs.Arrivals.{IsTakable};
-ghost use Rattle.conn_end.specs.Kept.{Kept, IsKept, StandsFor};
+ghost use Rattle.conn_end.specs.Kept.{Kept, IsKept, Represents};
 ghost use Rattle.conn_end.specs.Told.{Answers, awaited};
 
 /// Whatever an end keeps stands for some plain end.
 pub fn each_end_stands_for_a_plain_one()
-    ensures { (k : Kept) → IsKept k → (h : Half) × StandsFor k h }
+    ensures { (k : Kept) → IsKept k → (h : Half) × Represents k h }
 {}
 
 /// Its establishment, its links and the landing of its messages change nothing that an end keeps.
 pub fn its_links_are_its_owners()
-    ensures up { (k : Kept) (h : Half) (link : Link) → StandsFor k h → StandsFor k (comes_up link h) }
-    ensures fate { (k : Kept) (h : Half) (link : Link) (stage : LinkStage) → StandsFor k h → StandsFor k (meets_fate link stage h) }
-    ensures landing { (k : Kept) (h : Half) → StandsFor k h → StandsFor k (lands h) }
+    ensures up { (k : Kept) (h : Half) (link : Link) → Represents k h → Represents k (comes_up link h) }
+    ensures fate { (k : Kept) (h : Half) (link : Link) (stage : LinkStage) → Represents k h → Represents k (meets_fate link stage h) }
+    ensures landing { (k : Kept) (h : Half) → Represents k h → Represents k (lands h) }
 {}
 
 /// An await is told by what a read of one byte would be told.

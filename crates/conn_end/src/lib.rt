@@ -11,13 +11,13 @@ ghost use Rattle.std.specs.Prelude.{◌≡◌, ◌<◌, ◌≤◌, ◌^◌, ◌&
 ghost use Rattle.pipe_model.specs.Words.{is_nil};
 ghost use Rattle.pipe_model.specs.Snapshot.{is_last};
 ghost use Rattle.cdc_ring.specs.Rings.{Ring};
-ghost use Rattle.cdc_ring.specs.Kept.{StandsFor as RingStandsFor};
+ghost use Rattle.cdc_ring.specs.Kept.{Represents as RingRepresents};
 ghost use Rattle.pipe_model.specs.declared.reply.ResetCause.TheVariants.{NoLiveLink};
 ghost use Rattle.pipe_model.specs.declared.sent.Sent.{Sent};
 ghost use Rattle.pipe_model.specs.Ends.{Half, fresh, present as present_of, is_over, is_due_for_move, loses_group, strikes, takes, completes, moves, posts_batch, settle};
 ghost use Rattle.pipe_model.specs.Closing.{may_move};
 ghost use Rattle.pipe_model.specs.Calls.{Writes, Reads, Finishes, Closes, Aborts, calls};
-ghost use Rattle.conn_end.specs.Kept.{StandsFor, SameTerms, IsNew};
+ghost use Rattle.conn_end.specs.Kept.{Represents, SameTerms, IsNew};
 ghost use Rattle.conn_end.specs.Told.{Answers, finds, wrote_told};
 ghost use Rattle.conn_end.specs.Batches.{HoldsPiece, IsKeptPiece, may_post, owed_by, due_with, owed_alone, batch_of, IsPostable, pieces_for, posts_for};
 ghost use Rattle.conn_end.specs.Arrivals.{Lands, MayLand, Completes, MayComplete};
@@ -82,7 +82,7 @@ impl ConnEnd {
     pub fn new(alloc: Global, size: u32, depth: u8, number: u16) -> Result<ConnEnd, NoMemory>
         requires size { 1 ≤ size }
         requires depth { depth ≤ 8 }
-        ensures end { IfOk result (λ e. StandsFor e (fresh number)) }
+        ensures end { IfOk result (λ e. Represents e (fresh number)) }
         ensures new { IfOk result (IsNew size depth number 0) }
     {
         let ring = SendRing::new(alloc, size)?;
@@ -100,7 +100,7 @@ impl ConnEnd {
 
     /// Makes the end as new for a connection. Its messages carry this token, which is the peer's.
     pub fn start(&mut self, token: u32)
-        ensures end { StandsFor self.new (fresh self.old.first) }
+        ensures end { Represents self.new (fresh self.old.first) }
         ensures new { IsNew self.old.size self.old.course.depth self.old.first token self.new }
     {
         self.token = token;
@@ -121,8 +121,8 @@ impl ConnEnd {
     /// close, and once the peer has closed. It has accepted fewer than 2^63 bytes.
     pub fn write(&mut self, bytes: &[u8]) -> EndReply
         requires { self.old.accepted < 2 ^ 63 }
-        ensures end { (h : Half) → StandsFor self.old h → StandsFor self.new (calls self.old.size (Writes bytes.now) h) }
-        ensures told { (h : Half) → StandsFor self.old h → Answers self.old.size (Writes bytes.now) h result }
+        ensures end { (h : Half) → Represents self.old h → Represents self.new (calls self.old.size (Writes bytes.now) h) }
+        ensures told { (h : Half) → Represents self.old h → Answers self.old.size (Writes bytes.now) h result }
         ensures terms { SameTerms self.old self.new }
         ensures owes { self.new.owes ≡ self.old.owes }
     {
@@ -142,15 +142,15 @@ impl ConnEnd {
 
     /// What a read of `len` bytes would be told now.
     pub fn would_read(&self, len: u32) -> EndReply
-        ensures { (h : Half) → StandsFor self.now h → Answers self.now.size (Reads len) h result }
+        ensures { (h : Half) → Represents self.now h → Answers self.now.size (Reads len) h result }
     {
         self.course.would_read(self.size, len)
     }
 
     /// Hands out told bytes, at most `len`, by their place in the element. `Ended` after close.
     pub fn read(&mut self, len: u32) -> EndReply
-        ensures end { (h : Half) → StandsFor self.old h → StandsFor self.new (calls self.old.size (Reads len) h) }
-        ensures told { (h : Half) → StandsFor self.old h → Answers self.old.size (Reads len) h result }
+        ensures end { (h : Half) → Represents self.old h → Represents self.new (calls self.old.size (Reads len) h) }
+        ensures told { (h : Half) → Represents self.old h → Answers self.old.size (Reads len) h result }
         ensures terms { SameTerms self.old self.new }
         ensures owes { self.new.owes ≡ self.old.owes }
     {
@@ -161,8 +161,8 @@ impl ConnEnd {
 
     /// The application will write no more.
     pub fn finish(&mut self) -> EndReply
-        ensures end { (h : Half) → StandsFor self.old h → StandsFor self.new (calls self.old.size Finishes h) }
-        ensures told { (h : Half) → StandsFor self.old h → Answers self.old.size Finishes h result }
+        ensures end { (h : Half) → Represents self.old h → Represents self.new (calls self.old.size Finishes h) }
+        ensures told { (h : Half) → Represents self.old h → Answers self.old.size Finishes h result }
         ensures terms { SameTerms self.old self.new }
         ensures owes { self.new.owes ≡ self.old.owes }
     {
@@ -173,8 +173,8 @@ impl ConnEnd {
 
     /// The application closes the end.
     pub fn close(&mut self) -> EndReply
-        ensures end { (h : Half) → StandsFor self.old h → StandsFor self.new (calls self.old.size Closes h) }
-        ensures told { (h : Half) → StandsFor self.old h → Answers self.old.size Closes h result }
+        ensures end { (h : Half) → Represents self.old h → Represents self.new (calls self.old.size Closes h) }
+        ensures told { (h : Half) → Represents self.old h → Answers self.old.size Closes h result }
         ensures terms { SameTerms self.old self.new }
         ensures owes { self.new.owes ≡ self.old.owes }
     {
@@ -185,8 +185,8 @@ impl ConnEnd {
 
     /// The application resets the connection.
     pub fn abort(&mut self) -> EndReply
-        ensures end { (h : Half) → StandsFor self.old h → StandsFor self.new (calls self.old.size Aborts h) }
-        ensures told { (h : Half) → StandsFor self.old h → Answers self.old.size Aborts h result }
+        ensures end { (h : Half) → Represents self.old h → Represents self.new (calls self.old.size Aborts h) }
+        ensures told { (h : Half) → Represents self.old h → Answers self.old.size Aborts h result }
         ensures terms { SameTerms self.old self.new }
         ensures owes { self.new.owes ≡ self.old.owes }
     {
@@ -198,8 +198,8 @@ impl ConnEnd {
     /// The connection is reset for this cause: with its group, as `NoLiveLink` says, or as the peer's
     /// abort or a gap would reset it. A cause that came first stays.
     pub fn reset(&mut self, cause: ResetCause)
-        ensures group { (h : Half) → StandsFor self.old h → cause ≡ NoLiveLink h.link.group → StandsFor self.new (loses_group h) }
-        ensures other { (h : Half) → StandsFor self.old h → ((group : ℕ) → cause ≡ NoLiveLink group → ⊥) → StandsFor self.new (strikes cause h) }
+        ensures group { (h : Half) → Represents self.old h → cause ≡ NoLiveLink h.link.group → Represents self.new (loses_group h) }
+        ensures other { (h : Half) → Represents self.old h → ((group : ℕ) → cause ≡ NoLiveLink group → ⊥) → Represents self.new (strikes cause h) }
         ensures terms { SameTerms self.old self.new }
         ensures owes { self.new.owes ≡ self.old.owes }
     {
@@ -214,7 +214,7 @@ impl ConnEnd {
     pub fn take_cdc(&mut self, message: &CdcMessage, plain: &Snapshot) -> Taken
         requires { MayLand self.old message.now plain.now }
         ensures end { (h : Half) (sent : Sent) → Lands self.old message.now plain.now h sent → is_over h ≡ false
-            → StandsFor self.new (takes (Some sent) h) }
+            → Represents self.new (takes (Some sent) h) }
         ensures answer { (h : Half) (sent : Sent) → Lands self.old message.now plain.now h sent → result ≡ finds sent h }
         ensures terms { SameTerms self.old self.new }
         ensures owes { self.new.owes ≡ self.old.owes }
@@ -232,7 +232,7 @@ impl ConnEnd {
     pub fn completed(&mut self, message: &CdcMessage, plain: &Snapshot)
         requires { MayComplete self.old message.now plain.now }
         ensures end { (h : Half) (sent : Sent) → Completes self.old message.now plain.now h sent
-            → StandsFor self.new (completes (Some sent) h) }
+            → Represents self.new (completes (Some sent) h) }
         ensures terms { SameTerms self.old self.new }
         ensures owes { self.new.owes ≡ self.old.owes }
     {
@@ -245,7 +245,7 @@ impl ConnEnd {
     /// Moves to another link, where it is due for a move: all that has not completed is new again, and
     /// the next batch has a validation message.
     pub fn move_to(&mut self)
-        ensures end { (h : Half) → StandsFor self.old h → is_due_for_move h ≡ true → StandsFor self.new (moves h) }
+        ensures end { (h : Half) → Represents self.old h → is_due_for_move h ≡ true → Represents self.new (moves h) }
         ensures terms { SameTerms self.old self.new }
         ensures owes { self.new.owes ≡ true }
     {
@@ -257,7 +257,7 @@ impl ConnEnd {
     /// Whether it may move, where it is established and its link isn't live: its own closed or aborted
     /// snapshot has not completed, and its group has not ended.
     pub fn may_move(&self) -> bool
-        ensures { (h : Half) → StandsFor self.now h → result ≡ may_move h.phase }
+        ensures { (h : Half) → Represents self.now h → result ≡ may_move h.phase }
     {
         self.course.may_move()
     }
@@ -266,8 +266,8 @@ impl ConnEnd {
     /// message of a move, and what is new, if the flight has room. The last number used is below 2^63.
     pub fn next_batch(&mut self, live: bool) -> Option<Batch>
         requires { self.old.course.number < 2 ^ 63 }
-        ensures end { (h : Half) → StandsFor self.old h → live ≡ may_post h → StandsFor self.new (settle self.old.course.depth h) }
-        ensures batch { (h : Half) → StandsFor self.old h → live ≡ may_post h → result ≡ batch_of self.old h }
+        ensures end { (h : Half) → Represents self.old h → live ≡ may_post h → Represents self.new (settle self.old.course.depth h) }
+        ensures batch { (h : Half) → Represents self.old h → live ≡ may_post h → result ≡ batch_of self.old h }
         ensures terms { SameTerms self.old self.new }
         ensures owes { self.new.owes ≡ (self.old.owes && not live) }
     {
@@ -284,7 +284,7 @@ impl ConnEnd {
 
     // The validation message that it owes, which it owes no longer.
     fn take_check(&mut self) -> Option<CdcMessage>
-        ensures check { (h : Half) → StandsFor self.old h → result ≡ owed_by self.old h }
+        ensures check { (h : Half) → Represents self.old h → result ≡ owed_by self.old h }
         ensures rest { self.new ≡ record self.old { owes = false } }
     {
         if !self.owes_check {
@@ -297,8 +297,8 @@ impl ConnEnd {
     // Posts a snapshot, which is due, with the validation message that it owed.
     fn post(&mut self, check: Option<CdcMessage>, present: Snapshot) -> Batch
         requires { IsPostable self.old present }
-        ensures end { (h : Half) → StandsFor self.old h → present ≡ present_of h → StandsFor self.new (posts_batch h) }
-        ensures batch { (h : Half) → StandsFor self.old h → present ≡ present_of h → result ≡ due_with self.old h check }
+        ensures end { (h : Half) → Represents self.old h → present ≡ present_of h → Represents self.new (posts_batch h) }
+        ensures batch { (h : Half) → Represents self.old h → present ≡ present_of h → result ≡ due_with self.old h check }
         ensures terms { SameTerms self.old self.new }
         ensures owes { self.new.owes ≡ self.old.owes }
     {
@@ -322,35 +322,35 @@ impl ConnEnd {
 
     /// Whether no snapshot is uncompleted.
     pub fn idle(&self) -> bool
-        ensures { (h : Half) → StandsFor self.now h → result ≡ is_nil h.flight }
+        ensures { (h : Half) → Represents self.now h → result ≡ is_nil h.flight }
     {
         self.course.idle()
     }
 
     /// Whether its own closed or aborted snapshot has completed.
     pub fn told_end(&self) -> bool
-        ensures { (h : Half) → StandsFor self.now h → result ≡ is_last h.fin }
+        ensures { (h : Half) → Represents self.now h → result ≡ is_last h.fin }
     {
         last_one(self.course.fin())
     }
 
     /// Whether the peer's closed or aborted snapshot has landed.
     pub fn peer_end(&self) -> bool
-        ensures { (h : Half) → StandsFor self.now h → result ≡ is_last h.taken }
+        ensures { (h : Half) → Represents self.now h → result ≡ is_last h.taken }
     {
         last_one(self.course.taken())
     }
 
     /// Whether both have.
     pub fn over(&self) -> bool
-        ensures { (h : Half) → StandsFor self.now h → result ≡ is_over h }
+        ensures { (h : Half) → Represents self.now h → result ≡ is_over h }
     {
         self.told_end() && self.peer_end()
     }
 
     /// Whether the peer has told that it will write no more.
     pub fn peer_done(&self) -> bool
-        ensures { (h : Half) → StandsFor self.now h → result ≡ (h.taken.done || h.taken.closed) }
+        ensures { (h : Half) → Represents self.now h → result ≡ (h.taken.done || h.taken.closed) }
     {
         let taken = self.course.taken();
         taken.done || taken.closed
@@ -358,7 +358,7 @@ impl ConnEnd {
 
     /// Whether the peer has told that it has closed.
     pub fn peer_closed(&self) -> bool
-        ensures { (h : Half) → StandsFor self.now h → result ≡ h.taken.closed }
+        ensures { (h : Half) → Represents self.now h → result ≡ h.taken.closed }
     {
         self.course.taken().closed
     }
@@ -366,7 +366,7 @@ impl ConnEnd {
     /// The snapshot against which it finds something new: the last one posted, or after a move the last
     /// completed one until the next is posted.
     pub fn last(&self) -> Snapshot
-        ensures { (h : Half) → StandsFor self.now h → result ≡ h.last }
+        ensures { (h : Half) → Represents self.now h → result ≡ h.last }
     {
         self.course.last()
     }
@@ -399,8 +399,8 @@ fn check_alone(check: Option<CdcMessage>) -> Option<Batch>
 fn post_bytes(ring: &mut SendRing, size: u32, present: Snapshot) -> (Piece, Piece)
     requires some { 0 < size }
     requires room { length ring.old.marks < 8 }
-    ensures pieces { (r : Ring) → RingStandsFor ring.old r → result ≡ pieces_for size present r }
-    ensures ring { (r : Ring) → RingStandsFor ring.old r → RingStandsFor ring.new (posts_for present r) }
+    ensures pieces { (r : Ring) → RingRepresents ring.old r → result ≡ pieces_for size present r }
+    ensures ring { (r : Ring) → RingRepresents ring.old r → RingRepresents ring.new (posts_for present r) }
 {
     if present.aborted {
         let place = (present.told % size as u64) as u32;

@@ -1,6 +1,6 @@
 ghost use Rattle.std.specs.Prelude.{◌≡◌, true};
 ghost use Rattle.pipe_model.specs.Ends.{Half};
-ghost use Rattle.conn_end.specs.Kept.{StandsFor};
+ghost use Rattle.conn_end.specs.Kept.{Represents};
 ghost use Rattle.conn_end.specs.Arrivals.{IsTakable};
 
 use super::*;
@@ -53,7 +53,7 @@ const fn peer(number: u64, told: u64, read: u64) -> Snapshot {
 
 // Whether the end may take a snapshot.
 fn may_take(end: &ConnEnd, s: &Snapshot) -> bool
-    ensures { (h : Half) → StandsFor end.now h → result ≡ true → IsTakable end.now.size s.now h }
+    ensures { (h : Half) → Represents end.now h → result ≡ true → IsTakable end.now.size s.now h }
 {
     let taken = end.course.taken();
     let size = end.size as u64;

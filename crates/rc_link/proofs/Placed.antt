@@ -3,39 +3,39 @@ use Rattle.std.proofs.Common.{◌≡◌, refl, sym, Bool, true, false, if◌then
 use Rattle.std.proofs.lemmas.List.{map-append, append-nil}
 use Rattle.smc_num.specs.Names.{head}
 use Rattle.pipe_model.specs.Wires.{completes_later}
-use Rattle.rc_link.specs.declared.Carried.{Carried}
+use Rattle.rc_link.specs.declared.InFlight.{InFlight}
 use Rattle.rc_link.specs.Wire.{Queues, placed, unlanded, uncompleted, is_dead, is_reported, may_swallow, landing, completing, swallowing, with_landed, with_completed, with_swallowed, landed_with}
 
 -- the first
-head-placed : (cs : List Carried) → option_map placed (head cs) ≡ head (map placed cs)
+head-placed : (cs : List InFlight) → option_map placed (head cs) ≡ head (map placed cs)
 head-placed [] = refl
 head-placed (c ∷ cs) = refl
 
 -- the first, unless something holds
-head-unless : (b : Bool) (cs : List Carried) → option_map placed (if b then None else head cs) ≡ (if b then None else head (map placed cs))
+head-unless : (b : Bool) (cs : List InFlight) → option_map placed (if b then None else head cs) ≡ (if b then None else head (map placed cs))
 head-unless true cs = refl
 head-unless false cs = head-placed cs
 
 -- the first, where something holds
-head-if : (b : Bool) (cs : List Carried) → option_map placed (if b then head cs else None) ≡ (if b then head (map placed cs) else None)
+head-if : (b : Bool) (cs : List InFlight) → option_map placed (if b then head cs else None) ≡ (if b then head (map placed cs) else None)
 head-if true cs = head-placed cs
 head-if false cs = refl
 
 -- a post joins the landed ones
-landed-with : (b : Bool) (c : Carried) (landed : List Carried) → completes_later c.post ≡ b
+landed-with : (b : Bool) (c : InFlight) (landed : List InFlight) → completes_later c.post ≡ b
     → map placed (landed_with c landed) ≡ map placed landed ++ filter (λ p. completes_later p.post) (placed c ∷ [])
 landed-with true c landed later = rw later (map-append placed landed (c ∷ []))
 landed-with false c landed later = rw later (sym (append-nil (map placed landed)))
 
 -- what has not landed, after a landing from these
-unlanded-from : (b : Bool) (cs : List Carried) (w : Queues)
+unlanded-from : (b : Bool) (cs : List InFlight) (w : Queues)
     → unlanded (with_landed (if b then None else head cs) (record w { waiting = cs })) ≡ (if b then map placed cs else drop 1 (map placed cs))
 unlanded-from true cs w = refl
 unlanded-from false [] w = refl
 unlanded-from false (c ∷ cs) w = refl
 
 -- what has landed, after it
-uncompleted-from : (b : Bool) (cs : List Carried) (w : Queues)
+uncompleted-from : (b : Bool) (cs : List InFlight) (w : Queues)
     → uncompleted (with_landed (if b then None else head cs) (record w { waiting = cs }))
     ≡ (if b then uncompleted w else uncompleted w ++ filter (λ p. completes_later p.post) (take 1 (map placed cs)))
 uncompleted-from true cs w = refl
@@ -43,14 +43,14 @@ uncompleted-from false [] w = sym (append-nil (uncompleted w))
 uncompleted-from false (c ∷ cs) w = landed-with (completes_later c.post) c w.landed refl
 
 -- what has landed, after a completion of these
-completed-from : (b : Bool) (cs : List Carried) (w : Queues)
+completed-from : (b : Bool) (cs : List InFlight) (w : Queues)
     → uncompleted (with_completed (if b then None else head cs) (record w { landed = cs })) ≡ (if b then map placed cs else drop 1 (map placed cs))
 completed-from true cs w = refl
 completed-from false [] w = refl
 completed-from false (c ∷ cs) w = refl
 
 -- what has not landed, after a swallow from these
-swallowed-from : (b : Bool) (cs : List Carried) (w : Queues)
+swallowed-from : (b : Bool) (cs : List InFlight) (w : Queues)
     → unlanded (with_swallowed (if b then head cs else None) (record w { waiting = cs })) ≡ (if b then drop 1 (map placed cs) else map placed cs)
 swallowed-from true [] w = refl
 swallowed-from true (c ∷ cs) w = refl

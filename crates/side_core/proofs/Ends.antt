@@ -1,5 +1,6 @@
 -- What is done to the end of a connection, what it leaves as it is, and what it posts.
 mod Acting
+mod Changing
 mod Doings
 mod Dues
 mod Keeping
@@ -17,6 +18,12 @@ pub use Rattle.side_core.proofs.Ends.Acting.{number_after}
 pub use Rattle.side_core.proofs.Ends.Acting.{set_after}
 -- what is due is posted by the depth that it was made with
 pub use Rattle.side_core.proofs.Ends.Acting.{settled}
+-- what a change makes of some plain end
+pub use Rattle.side_core.proofs.Ends.Changing.{IsMakeable, makeable}
+-- a change leaves the link and the establishment of the end, for which what is kept stands
+pub use Rattle.side_core.proofs.Ends.Changing.{makes_leave, makes_stands}
+-- it may come to the connection of a socket, and what it makes of that
+pub use Rattle.side_core.proofs.Ends.Changing.{call_makes, makes_at, may_come}
 -- that a way is that of the connection of a socket
 pub use Rattle.side_core.proofs.Ends.Doings.{IsWayOf}
 -- the manager after something was done to the end of a socket
@@ -24,23 +31,21 @@ pub use Rattle.side_core.proofs.Ends.Doings.{acted}
 -- what is posted when something is done to the end of a socket
 pub use Rattle.side_core.proofs.Ends.Doings.{acted_posts}
 -- the manager after a call
-pub use Rattle.side_core.proofs.Ends.Doings.{called}
+pub use Rattle.side_core.proofs.Ends.Changing.{called}
 -- and when the socket calls
-pub use Rattle.side_core.proofs.Ends.Doings.{called_posts}
--- a completion, a read, a landing and a write leave the link and the establishment of the end
-pub use Rattle.side_core.proofs.Ends.Doings.{completes_leave, reads_leave, takes_leave, writes_leave}
+pub use Rattle.side_core.proofs.Ends.Changing.{called_posts}
+-- a completion, the calls that end an end, a read, a landing and a write leave the link and the establishment of the end
+pub use Rattle.side_core.proofs.Ends.Doings.{Leaves, completes_leave, ends_leave, reads_leave, takes_leave, writes_leave}
 -- how many bytes an element has for both
 pub use Rattle.side_core.proofs.Ends.Doings.{same_size}
--- what a write is told
-pub use Rattle.side_core.proofs.Ends.Doings.{write_told}
+-- what a write is told, and what finish, close and abort are
+pub use Rattle.side_core.proofs.Ends.Doings.{end_told, write_told}
 -- nor does one without a peer
 pub use Rattle.side_core.proofs.Ends.Dues.{no_peer}
 -- an end that gives no batch posts nothing
 pub use Rattle.side_core.proofs.Ends.Dues.{nothing_due}
 -- what the batch of an end posts is what is due
 pub use Rattle.side_core.proofs.Ends.Dues.{posts_due}
--- and its number
-pub use Rattle.side_core.proofs.Ends.Keeping.{completes_alike, reads_alike, takes_alike, writes_alike}
 -- the plain connection of a socket
 pub use Rattle.side_core.proofs.Ends.Standing.{IsFound}
 -- one has learnt of its peer

@@ -9,7 +9,7 @@ use Rattle.pipe_model.specs.declared.snapshot.Snapshot.{Snapshot}
 use Rattle.pipe_model.specs.declared.sent.Sent.{Sent}
 use Rattle.pipe_model.specs.Ends.{Half, is_over}
 use Rattle.pipe_model.specs.Posts.{offered_place}
-use Rattle.conn_end.specs.Kept.{Kept, StandsFor}
+use Rattle.conn_end.specs.Kept.{Kept, Represents}
 use Rattle.conn_end.specs.Arrivals.{Lands, Completes, MayComplete}
 use Rattle.side_core.specs.Records.{Connection}
 
@@ -46,7 +46,7 @@ CompletesAt m plain sent _ _ = ⊥
 
 -- that an address of the peer's element is the place of bytes that an end keeps, the first of which has a place in the stream
 pub record IsGoing (size : ℕ) (o : Offer) (k : Kept) (place len : ℕ) (h : Half) (first : ℕ) : Type 0 where
-  pub stands : StandsFor k h
+  pub stands : Represents k h
   pub address : place ≡ address_of size (offered_place o) first
   pub from : h.fin.told ≤ first
   pub to : first + len ≤ length h.out

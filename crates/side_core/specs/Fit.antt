@@ -23,7 +23,7 @@ use Rattle.side_core.specs.declared.route.Route.{Route}
 use Rattle.side_core.specs.Records.{route_at, Records, conn_at}
 use Rattle.side_core.specs.Setups.{IsSet, CanStart, CanBegin}
 use Rattle.side_core.specs.Desk.{Desk, made_on}
-use Rattle.side_core.specs.Manager.{Manager, StandsFor, state_at}
+use Rattle.side_core.specs.Manager.{Manager, Represents, state_at}
 use Rattle.side_core.specs.Acting.{IsSoundAt}
 use Rattle.side_core.specs.Taking.{IsOffer}
 
@@ -86,7 +86,7 @@ pub record IsFit (m : Manager Half) : Type 0 where
 -- what is true of a manager: it stands for a plain one in which all fits together
 pub record IsManager (v : Manager Kept) : Type 0 where
   pub plain : Manager Half
-  pub stands : StandsFor v plain
+  pub stands : Represents v plain
   pub fit : IsFit plain
 
 -- a desk and records as those of a manager

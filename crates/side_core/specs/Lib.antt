@@ -1,4 +1,5 @@
 pub mod Acting
+pub mod Changes
 pub mod Comings
 pub mod Desk
 pub mod FirstRow

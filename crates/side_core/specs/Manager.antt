@@ -76,7 +76,7 @@ pub record Works (d : Desk) (r : Records Kept) (m : Manager Half) : Type 0 where
   pub tied : (s : ℕ) → IsTiedAt m.desk.links.known (conn_at s m.records)
 
 -- a manager stands for a plain one
-pub record StandsFor (v : Manager Kept) (m : Manager Half) : Type 0 where
+pub record Represents (v : Manager Kept) (m : Manager Half) : Type 0 where
   pub works : Works v.desk v.records m
   pub hands : v.hands ≡ m.hands
   pub regions : v.regions ≡ m.regions

@@ -9,7 +9,7 @@ use Rattle.element_ledger.specs.declared.Element.{Element}
 use Rattle.pipe_model.specs.Words.{passes}
 use Rattle.pipe_model.specs.Ends.{Half, fresh, comes_up, settle}
 use Rattle.pipe_model.specs.Pipe.{Terms}
-use Rattle.conn_end.specs.Kept.{Kept, StandsFor}
+use Rattle.conn_end.specs.Kept.{Kept, Represents}
 use Rattle.side_core.specs.declared.route.Route.{Route}
 
 -- a connection at one side: its route and its end
@@ -99,7 +99,7 @@ pub record Stands (k : Connection Kept) (c : Connection Half) : Type 0 where
   pub route : k.route ≡ c.route
   pub up : c.end.up ≡ c.route.up
   pub link : c.route.up ≡ true → c.end.link ≡ c.route.link
-  pub end : StandsFor k.end c.end
+  pub end : Represents k.end c.end
 
 -- that of what may be no connection
 abbrev pub StandsAt : Option (Connection Kept) → Option (Connection Half) → Type 0

@@ -5,20 +5,20 @@
 ghost use Rattle.std.specs.Prelude.{◌≡◌, ◌+◌, ◌<◌, ◌≤◌, ◌^◌, ◌++◌, ℕ, List, Some, None, IfOk, IsSome, All, take as front, drop, length, option_map, vec_capacity};
 ghost use Rattle.smc_num.specs.declared.LinkId.{LinkId as Link};
 ghost use Rattle.smc_num.specs.Places.{rmb_at};
-ghost use Rattle.pipe_model.specs.declared.sent.Sent.{Sent};
-ghost use Rattle.pipe_model.specs.Ends.{Half, comes_up, takes, completes};
-ghost use Rattle.pipe_model.specs.Calls.{Writes, Reads, calls};
+ghost use Rattle.pipe_model.specs.Ends.{Half, comes_up};
+ghost use Rattle.pipe_model.specs.Calls.{Reads};
 ghost use Rattle.conn_end.specs.Told.{Answers};
 ghost use Rattle.side_core.specs.Records.{Records, AllStand, IsSmall, no_records, conn_at, half_at, route_at, link_at, holder, aimer, settles, begins, aims, rises, leaves};
 ghost use Rattle.side_core.specs.Inside.{IsMade, made_with, socket_named as named_by};
 ghost use Rattle.side_core.specs.Posting.{IsWay, posts_at};
-ghost use Rattle.side_core.specs.Comings.{MayArriveAt, ArrivesAt, MayCompleteAt, CompletesAt, MayGo, IsGoingAt};
+ghost use Rattle.side_core.specs.Changes.{MayComeAt, MakesAt, Tells};
+ghost use Rattle.side_core.specs.Comings.{MayGo, IsGoingAt};
 
+use crate::change::Change;
 use crate::record::{Record, element_start};
 use crate::route::{Route, Way};
 use crate::shelf::Shelf;
 use arrayvec::ArrayVec;
-use cdc_wire::CdcMessage;
 use clc_wire::Offer;
 use conn_end::{ConnEnd, EndReply, Piece};
 use element_ledger::Element;
@@ -198,86 +198,26 @@ impl Connections {
         route.element
     }
 
-    /// Takes bytes of the application, and posts what is due then.
-    pub fn write(
+    /// Something happens to the end of a socket, and what is due then is posted. What is no call is
+    /// answered with `Done`.
+    pub fn change(
         &mut self,
         s: u32,
-        bytes: &[u8],
+        change: Change<'_>,
         way: Way,
         posts: &mut ArrayVec<Post, 6>,
     ) -> EndReply
-        requires there { IsSome (conn_at s self.old) }
+        requires may { MayComeAt change (conn_at s self.old) }
         requires small { IsSmall (conn_at s self.old) }
         requires room { length posts.old.items ≤ 3 }
-        ensures end { (r : Records Half) → AllStand self.old r → IsWay (calls self.old.terms.size (Writes bytes.now)) way (conn_at s r)
-            → AllStand self.new (settles s (calls self.old.terms.size (Writes bytes.now)) r) }
-        ensures posts { (r : Records Half) → AllStand self.old r → IsWay (calls self.old.terms.size (Writes bytes.now)) way (conn_at s r)
-            → posts.new.items ≡ posts.old.items ++ posts_at s (calls self.old.terms.size (Writes bytes.now)) way r (conn_at s r) }
-        ensures told { (r : Records Half) → AllStand self.old r → Answers self.old.terms.size (Writes bytes.now) (half_at s r) result }
+        ensures end { (r : Records Half) (act : Half → Half) → AllStand self.old r → MakesAt self.old.terms.size change.entry (conn_at s self.old) (conn_at s r) act
+            → IsWay act way (conn_at s r) → AllStand self.new (settles s act r) }
+        ensures posts { (r : Records Half) (act : Half → Half) → AllStand self.old r → MakesAt self.old.terms.size change.entry (conn_at s self.old) (conn_at s r) act
+            → IsWay act way (conn_at s r) → posts.new.items ≡ posts.old.items ++ posts_at s act way r (conn_at s r) }
+        ensures told { (r : Records Half) → AllStand self.old r → Tells self.old.terms.size change.entry (half_at s r) result }
     {
         let size = self.size;
-        self.records.get_mut(s).write(bytes, size, way, posts)
-    }
-
-    /// Hands out told bytes, at most `len`, and posts what is due then.
-    pub fn read(&mut self, s: u32, len: u32, way: Way, posts: &mut ArrayVec<Post, 6>) -> EndReply
-        requires there { IsSome (conn_at s self.old) }
-        requires small { IsSmall (conn_at s self.old) }
-        requires room { length posts.old.items ≤ 3 }
-        ensures end { (r : Records Half) → AllStand self.old r → IsWay (calls self.old.terms.size (Reads len)) way (conn_at s r)
-            → AllStand self.new (settles s (calls self.old.terms.size (Reads len)) r) }
-        ensures posts { (r : Records Half) → AllStand self.old r → IsWay (calls self.old.terms.size (Reads len)) way (conn_at s r)
-            → posts.new.items ≡ posts.old.items ++ posts_at s (calls self.old.terms.size (Reads len)) way r (conn_at s r) }
-        ensures told { (r : Records Half) → AllStand self.old r → Answers self.old.terms.size (Reads len) (half_at s r) result }
-    {
-        let size = self.size;
-        self.records.get_mut(s).read(len, size, way, posts)
-    }
-
-    /// A message of the peer lands, and what is due then is posted.
-    pub fn take_cdc(
-        &mut self,
-        s: u32,
-        message: &CdcMessage,
-        plain: &Snapshot,
-        way: Way,
-        posts: &mut ArrayVec<Post, 6>,
-    )
-        requires arrives { MayArriveAt message.now plain.now (conn_at s self.old) }
-        requires small { IsSmall (conn_at s self.old) }
-        requires room { length posts.old.items ≤ 3 }
-        ensures end { (r : Records Half) (sent : Sent) → AllStand self.old r → ArrivesAt message.now plain.now sent (conn_at s self.old) (conn_at s r)
-            → IsWay (takes (Some sent)) way (conn_at s r) → AllStand self.new (settles s (takes (Some sent)) r) }
-        ensures posts { (r : Records Half) (sent : Sent) → AllStand self.old r → ArrivesAt message.now plain.now sent (conn_at s self.old) (conn_at s r)
-            → IsWay (takes (Some sent)) way (conn_at s r) → posts.new.items ≡ posts.old.items ++ posts_at s (takes (Some sent)) way r (conn_at s r) }
-    {
-        let size = self.size;
-        self.records
-            .get_mut(s)
-            .take_cdc(message, plain, size, way, posts);
-    }
-
-    /// The oldest uncompleted message of a socket's end completes, and what is due then is posted.
-    pub fn completed(
-        &mut self,
-        s: u32,
-        message: &CdcMessage,
-        plain: &Snapshot,
-        way: Way,
-        posts: &mut ArrayVec<Post, 6>,
-    )
-        requires completes { MayCompleteAt message.now plain.now (conn_at s self.old) }
-        requires small { IsSmall (conn_at s self.old) }
-        requires room { length posts.old.items ≤ 3 }
-        ensures end { (r : Records Half) (sent : Sent) → AllStand self.old r → CompletesAt message.now plain.now sent (conn_at s self.old) (conn_at s r)
-            → IsWay (completes (Some sent)) way (conn_at s r) → AllStand self.new (settles s (completes (Some sent)) r) }
-        ensures posts { (r : Records Half) (sent : Sent) → AllStand self.old r → CompletesAt message.now plain.now sent (conn_at s self.old) (conn_at s r)
-            → IsWay (completes (Some sent)) way (conn_at s r) → posts.new.items ≡ posts.old.items ++ posts_at s (completes (Some sent)) way r (conn_at s r) }
-    {
-        let size = self.size;
-        self.records
-            .get_mut(s)
-            .completed(message, plain, size, way, posts);
+        self.records.get_mut(s).change(change, size, way, posts)
     }
 
     /// What a read of `len` bytes would be told now.

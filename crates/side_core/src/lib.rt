@@ -8,6 +8,7 @@
 //! read copies out of the buffer. All memory is taken by [`SideCore::new`].
 #![tactic(auto)]
 
+mod change;
 mod connections;
 mod desk;
 mod messages;
@@ -16,9 +17,8 @@ mod route;
 mod shelf;
 mod side;
 mod taking;
-#[cfg(test)]
-mod tests;
 
+pub use change::EndCall;
 pub use clc_handshake::EndState;
 pub use conn_end::EndReply;
 pub use side::SideCore;

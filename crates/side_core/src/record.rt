@@ -1,25 +1,21 @@
 //! One connection at a side: its route and its end, and what the end posts.
 ghost use Rattle.std.specs.Prelude.{◌≡◌, ◌+◌, ◌++◌, ◌≤◌, ◌<◌, ◌^◌, true, Some, length, IsSome};
 ghost use Rattle.smc_num.specs.Places.{rmb_at, element_start as start_of};
-ghost use Rattle.pipe_model.specs.declared.sent.Sent.{Sent};
-ghost use Rattle.pipe_model.specs.Ends.{Half, comes_up, takes, completes, settle};
-ghost use Rattle.pipe_model.specs.Calls.{Writes, Reads, calls};
+ghost use Rattle.pipe_model.specs.Ends.{Half, comes_up, settle};
 ghost use Rattle.pipe_model.specs.Posts.{offered_place};
-ghost use Rattle.conn_end.specs.Kept.{StandsFor};
-ghost use Rattle.conn_end.specs.Told.{Answers};
+ghost use Rattle.conn_end.specs.Kept.{Represents};
 ghost use Rattle.conn_end.specs.Batches.{may_post};
-ghost use Rattle.conn_end.specs.Arrivals.{Completes, MayComplete};
-ghost use Rattle.side_core.specs.Comings.{Arrives, MayArrive};
+ghost use Rattle.side_core.specs.Changes.{MayCome, Makes, Tells};
 ghost use Rattle.side_core.specs.Inside.{IsSet, IsOffered};
 ghost use Rattle.side_core.specs.Slots.{conn_of};
 ghost use Rattle.side_core.specs.Posting.{due_posts, IsOnWay, piece_posts, message_posts, posts_of_batch, SameCourse};
 
+use crate::change::Change;
 use crate::route::{Route, Way};
 use arrayvec::ArrayVec;
-use cdc_wire::CdcMessage;
 use clc_wire::Offer;
 use conn_end::{Batch, ConnEnd, EndReply, Piece};
-use pipe_model::{Post, Snapshot};
+use pipe_model::Post;
 use smc_num::LinkId;
 
 // How far apart the addresses of two RMBs are.
@@ -41,108 +37,40 @@ impl Record {
         requires room { length posts.old.items ≤ 3 }
         ensures same { SameCourse (record (conn_of self.old) { route = record self.old.route { up = true } }) (conn_of self.new) }
         ensures set { IsSet (conn_of self.new) }
-        ensures end { (h : Half) → StandsFor self.old.end h → way.live ≡ may_post (comes_up self.old.route.link h)
-            → StandsFor self.new.end (settle self.old.end.course.depth (comes_up self.old.route.link h)) }
-        ensures posts { (h : Half) → StandsFor self.old.end h → way.live ≡ may_post (comes_up self.old.route.link h)
+        ensures end { (h : Half) → Represents self.old.end h → way.live ≡ may_post (comes_up self.old.route.link h)
+            → Represents self.new.end (settle self.old.end.course.depth (comes_up self.old.route.link h)) }
+        ensures posts { (h : Half) → Represents self.old.end h → way.live ≡ may_post (comes_up self.old.route.link h)
             → posts.new.items ≡ posts.old.items ++ due_posts self.old.end.size self.old.end.course.depth way.side way.key self.old.route.peer (comes_up self.old.route.link h) }
     {
         self.route.up = true;
         self.post_due(size, way, posts);
     }
 
-    /// Takes bytes of the application, and posts what is due then.
-    pub fn write(
+    /// Something happens to its end, and what is due then is posted. What is no call is answered with
+    /// `Done`.
+    pub fn change(
         &mut self,
-        bytes: &[u8],
+        change: Change<'_>,
         size: u32,
         way: Way,
         posts: &mut ArrayVec<Post, 6>,
     ) -> EndReply
         requires set { IsSet (conn_of self.old) }
         requires size { size ≡ self.old.end.size }
-        requires accepted { self.old.end.accepted < 2 ^ 63 }
+        requires may { MayCome change self.old.end }
         requires number { self.old.end.course.number < 2 ^ 63 }
         requires room { length posts.old.items ≤ 3 }
         ensures same { SameCourse (conn_of self.old) (conn_of self.new) }
         ensures set { IsSet (conn_of self.new) }
-        ensures end { (h : Half) → StandsFor self.old.end h → way.live ≡ may_post (calls self.old.end.size (Writes bytes.now) h)
-            → StandsFor self.new.end (settle self.old.end.course.depth (calls self.old.end.size (Writes bytes.now) h)) }
-        ensures posts { (h : Half) → StandsFor self.old.end h → IsOnWay self.old.route.link way (calls self.old.end.size (Writes bytes.now) h)
-            → posts.new.items ≡ posts.old.items ++ due_posts self.old.end.size self.old.end.course.depth way.side way.key self.old.route.peer (calls self.old.end.size (Writes bytes.now) h) }
-        ensures told { (h : Half) → StandsFor self.old.end h → Answers self.old.end.size (Writes bytes.now) h result }
+        ensures end { (h : Half) (act : Half → Half) → Makes self.old.end.size change.entry self.old.end h act → way.live ≡ may_post (act h)
+            → Represents self.new.end (settle self.old.end.course.depth (act h)) }
+        ensures posts { (h : Half) (act : Half → Half) → Makes self.old.end.size change.entry self.old.end h act → IsOnWay self.old.route.link way (act h)
+            → posts.new.items ≡ posts.old.items ++ due_posts self.old.end.size self.old.end.course.depth way.side way.key self.old.route.peer (act h) }
+        ensures told { (h : Half) → Represents self.old.end h → Tells self.old.end.size change.entry h result }
     {
-        let reply = self.end.write(bytes);
+        let reply = change.make(&mut self.end);
         self.post_due(size, way, posts);
         reply
-    }
-
-    /// Hands out told bytes, at most `len`, and posts what is due then.
-    pub fn read(&mut self, len: u32, size: u32, way: Way, posts: &mut ArrayVec<Post, 6>) -> EndReply
-        requires set { IsSet (conn_of self.old) }
-        requires size { size ≡ self.old.end.size }
-        requires number { self.old.end.course.number < 2 ^ 63 }
-        requires room { length posts.old.items ≤ 3 }
-        ensures same { SameCourse (conn_of self.old) (conn_of self.new) }
-        ensures set { IsSet (conn_of self.new) }
-        ensures end { (h : Half) → StandsFor self.old.end h → way.live ≡ may_post (calls self.old.end.size (Reads len) h)
-            → StandsFor self.new.end (settle self.old.end.course.depth (calls self.old.end.size (Reads len) h)) }
-        ensures posts { (h : Half) → StandsFor self.old.end h → IsOnWay self.old.route.link way (calls self.old.end.size (Reads len) h)
-            → posts.new.items ≡ posts.old.items ++ due_posts self.old.end.size self.old.end.course.depth way.side way.key self.old.route.peer (calls self.old.end.size (Reads len) h) }
-        ensures told { (h : Half) → StandsFor self.old.end h → Answers self.old.end.size (Reads len) h result }
-    {
-        let reply = self.end.read(len);
-        self.post_due(size, way, posts);
-        reply
-    }
-
-    /// A message of the peer lands, and what is due then is posted.
-    pub fn take_cdc(
-        &mut self,
-        message: &CdcMessage,
-        plain: &Snapshot,
-        size: u32,
-        way: Way,
-        posts: &mut ArrayVec<Post, 6>,
-    )
-        requires set { IsSet (conn_of self.old) }
-        requires size { size ≡ self.old.end.size }
-        requires arrives { MayArrive self.old.end message.now plain.now }
-        requires number { self.old.end.course.number < 2 ^ 63 }
-        requires room { length posts.old.items ≤ 3 }
-        ensures same { SameCourse (conn_of self.old) (conn_of self.new) }
-        ensures set { IsSet (conn_of self.new) }
-        ensures end { (h : Half) (sent : Sent) → Arrives self.old.end message.now plain.now h sent → way.live ≡ may_post (takes (Some sent) h)
-            → StandsFor self.new.end (settle self.old.end.course.depth (takes (Some sent) h)) }
-        ensures posts { (h : Half) (sent : Sent) → Arrives self.old.end message.now plain.now h sent → IsOnWay self.old.route.link way (takes (Some sent) h)
-            → posts.new.items ≡ posts.old.items ++ due_posts self.old.end.size self.old.end.course.depth way.side way.key self.old.route.peer (takes (Some sent) h) }
-    {
-        self.end.take_cdc(message, plain);
-        self.post_due(size, way, posts);
-    }
-
-    /// Its oldest uncompleted message completes, and what is due then is posted.
-    pub fn completed(
-        &mut self,
-        message: &CdcMessage,
-        plain: &Snapshot,
-        size: u32,
-        way: Way,
-        posts: &mut ArrayVec<Post, 6>,
-    )
-        requires set { IsSet (conn_of self.old) }
-        requires size { size ≡ self.old.end.size }
-        requires completes { MayComplete self.old.end message.now plain.now }
-        requires number { self.old.end.course.number < 2 ^ 63 }
-        requires room { length posts.old.items ≤ 3 }
-        ensures same { SameCourse (conn_of self.old) (conn_of self.new) }
-        ensures set { IsSet (conn_of self.new) }
-        ensures end { (h : Half) (sent : Sent) → Completes self.old.end message.now plain.now h sent → way.live ≡ may_post (completes (Some sent) h)
-            → StandsFor self.new.end (settle self.old.end.course.depth (completes (Some sent) h)) }
-        ensures posts { (h : Half) (sent : Sent) → Completes self.old.end message.now plain.now h sent → IsOnWay self.old.route.link way (completes (Some sent) h)
-            → posts.new.items ≡ posts.old.items ++ due_posts self.old.end.size self.old.end.course.depth way.side way.key self.old.route.peer (completes (Some sent) h) }
-    {
-        self.end.completed(message, plain);
-        self.post_due(size, way, posts);
     }
 
     // Posts what is due.
@@ -153,8 +81,8 @@ impl Record {
         requires room { length posts.old.items ≤ 3 }
         ensures same { SameCourse (conn_of self.old) (conn_of self.new) }
         ensures set { IsSet (conn_of self.new) }
-        ensures end { (h : Half) → StandsFor self.old.end h → way.live ≡ may_post h → StandsFor self.new.end (settle self.old.end.course.depth h) }
-        ensures posts { (h : Half) → StandsFor self.old.end h → IsOnWay self.old.route.link way h
+        ensures end { (h : Half) → Represents self.old.end h → way.live ≡ may_post h → Represents self.new.end (settle self.old.end.course.depth h) }
+        ensures posts { (h : Half) → Represents self.old.end h → IsOnWay self.old.route.link way h
             → posts.new.items ≡ posts.old.items ++ due_posts self.old.end.size self.old.end.course.depth way.side way.key self.old.route.peer h }
     {
         let Some(batch) = self.end.next_batch(way.live) else {

@@ -21,14 +21,16 @@ ghost use Rattle.pipe_model.specs.Messages.{confirm_link};
 ghost use Rattle.pipe_model.specs.Replies.{expects};
 ghost use Rattle.conn_end.specs.Told.{Answers, told_of};
 ghost use Rattle.side_core.specs.Acting.{IsSoundAt, MayConfirm, MayHand, MayRise, hands_after, posts_after, reply_of_desk, rises_first, MayWrite, acts_at, buffer_of, bytes_land, call_of, confirm_reply, confirming_posts, confirms_link, due_at, handed_from, handed_out, risen_at, way_of};
+ghost use Rattle.side_core.specs.Changes.{named};
 ghost use Rattle.side_core.specs.Comings.{IsGoingAt};
 ghost use Rattle.side_core.specs.Desk.{makes_link, pair_at};
 ghost use Rattle.side_core.specs.Landing.{CanMake, CompletesIn, LandsIn, MayCompleteIn, MayGoOut, MayLandIn, dropped, falls_at, is_wait, opening_posts, opens_at, told_at};
-ghost use Rattle.side_core.specs.Manager.{Manager, StandsFor, Works, hand_in, hand_of, new_manager, no_hand, state_at};
+ghost use Rattle.side_core.specs.Manager.{Manager, Represents, Works, hand_in, hand_of, new_manager, no_hand, state_at};
 ghost use Rattle.side_core.specs.Records.{aimer, conn_at, half_at, holder, route_at};
 ghost use Rattle.side_core.specs.Setups.{IsSet};
 ghost use Rattle.side_core.specs.Taking.{MayTake, rises_at, takes_message, taking_posts, taking_told, verdict_at, with_desk};
 
+use crate::change::{Change, EndCall};
 use crate::connections::Connections;
 use crate::desk::Desk;
 use crate::messages;
@@ -84,7 +86,7 @@ impl SideCore {
     pub fn new(alloc: Global, side: Side, setup: &Setup) -> Result<SideCore, NoMemory>
         requires { IsSet setup.now side }
         ensures kept { IfOk result (λ core. core ≡ new_manager side setup.now) }
-        ensures stands { IfOk result (λ core. StandsFor core (new_manager side setup.now)) }
+        ensures stands { IfOk result (λ core. Represents core (new_manager side setup.now)) }
     {
         let desk = Desk::new(alloc, side, setup)?;
         let hands = no_hands(alloc, setup.sockets)?;
@@ -114,7 +116,7 @@ impl SideCore {
         requires none { state_at s self.old ≡ NoEnd }
         requires server { self.old.desk.side ≡ A → raw ≡ false }
         requires room { length posts.old.items ≤ 5 }
-        ensures side { (m : Manager Half) → StandsFor self.old m → StandsFor self.new (opens_at s raw m) }
+        ensures side { (m : Manager Half) → Represents self.old m → Represents self.new (opens_at s raw m) }
         ensures posts { posts.new.items ≡ posts.old.items ++ opening_posts s self.old.desk }
     {
         let side = self.desk.side();
@@ -133,7 +135,7 @@ impl SideCore {
     pub fn fall_back(&mut self, s: u32)
         requires socket { s < length self.old.hands }
         requires none { state_at s self.old ≡ NoEnd }
-        ensures { (m : Manager Half) → StandsFor self.old m → StandsFor self.new (falls_at s m) }
+        ensures { (m : Manager Half) → Represents self.old m → Represents self.new (falls_at s m) }
     {
         self.hands[s as usize] = Some(Handshake::fallen());
     }
@@ -173,7 +175,7 @@ impl SideCore {
     /// A link was made by the client: it is pending here.
     pub fn link_made(&mut self, link: LinkId)
         requires { CanMake link self.old.desk }
-        ensures { (m : Manager Half) → StandsFor self.old m → StandsFor self.new (with_desk (makes_link link) m) }
+        ensures { (m : Manager Half) → Represents self.old m → Represents self.new (with_desk (makes_link link) m) }
     {
         self.desk.make_link(link);
     }
@@ -193,8 +195,8 @@ impl SideCore {
         requires room { length posts.old.items ≤ 2 }
         ensures told { result ≡ taking_told s message.now paths.now self.old }
         ensures asks { verdict_at s message.now paths.now self.old ≡ AskKey → ⊥ }
-        ensures side { (m : Manager Half) → StandsFor self.old m → StandsFor self.new (takes_message s message.now (unwrap_or link no_link) paths.now m) }
-        ensures posts { (m : Manager Half) → StandsFor self.old m → posts.new.items ≡ posts.old.items ++ taking_posts s message.now (unwrap_or link no_link) paths.now m }
+        ensures side { (m : Manager Half) → Represents self.old m → Represents self.new (takes_message s message.now (unwrap_or link no_link) paths.now m) }
+        ensures posts { (m : Manager Half) → Represents self.old m → posts.new.items ≡ posts.old.items ++ taking_posts s message.now (unwrap_or link no_link) paths.now m }
     {
         let link = link.unwrap_or(NO_LINK);
         let lacks = self.desk.lacks(paths);
@@ -229,8 +231,8 @@ impl SideCore {
     /// its key is bound on the link.
     pub fn land_write(&mut self, link: LinkId, key: u32, address: u64, front: &[u8], back: &[u8])
         requires { MayWrite link key address (length front.now + length back.now) self.old }
-        ensures { (m : Manager Half) (rmb : ℕ) → StandsFor self.old m → rmb_bound key link m.desk.keys ≡ Some rmb
-            → StandsFor self.new (bytes_land rmb address (front.now ++ back.now) m) }
+        ensures { (m : Manager Half) (rmb : ℕ) → Represents self.old m → rmb_bound key link m.desk.keys ≡ Some rmb
+            → Represents self.new (bytes_land rmb address (front.now ++ back.now) m) }
     {
         if let Some(rmb) = self.desk.rmb_of(key, link) {
             land_in(&mut self.regions, rmb, address, front, back);
@@ -250,16 +252,17 @@ impl SideCore {
         requires room { length posts.old.items ≤ 3 }
         ensures told { result ≡ dropped message.now.token self.old }
         ensures none { holder message.now.token self.old.records ≡ None → (self.new ≡ self.old) × (posts.new.items ≡ posts.old.items) }
-        ensures side { (m : Manager Half) (s : ℕ) (sent : Sent) → StandsFor self.old m → LandsIn s message.now plain.now sent self.old m
-            → StandsFor self.new (acts_at s (takes (Some sent)) m) }
-        ensures posts { (m : Manager Half) (s : ℕ) (sent : Sent) → StandsFor self.old m → LandsIn s message.now plain.now sent self.old m
+        ensures side { (m : Manager Half) (s : ℕ) (sent : Sent) → Represents self.old m → LandsIn s message.now plain.now sent self.old m
+            → Represents self.new (acts_at s (takes (Some sent)) m) }
+        ensures posts { (m : Manager Half) (s : ℕ) (sent : Sent) → Represents self.old m → LandsIn s message.now plain.now sent self.old m
             → posts.new.items ≡ posts.old.items ++ due_at s (takes (Some sent)) m }
     {
         let Some(s) = self.connections.holder(message.token) else {
             return Some(message.token);
         };
         let way = self.way(s);
-        self.connections.take_cdc(s, message, plain, way, posts);
+        let change = Change::Land(message, plain);
+        self.connections.change(s, change, way, posts);
         None
     }
 
@@ -275,16 +278,17 @@ impl SideCore {
         requires may { MayCompleteIn message.now plain.now self.old }
         requires room { length posts.old.items ≤ 3 }
         ensures none { aimer message.now.token self.old.records ≡ None → (self.new ≡ self.old) × (posts.new.items ≡ posts.old.items) }
-        ensures side { (m : Manager Half) (s : ℕ) (sent : Sent) → StandsFor self.old m → CompletesIn s message.now plain.now sent self.old m
-            → StandsFor self.new (acts_at s (completes (Some sent)) m) }
-        ensures posts { (m : Manager Half) (s : ℕ) (sent : Sent) → StandsFor self.old m → CompletesIn s message.now plain.now sent self.old m
+        ensures side { (m : Manager Half) (s : ℕ) (sent : Sent) → Represents self.old m → CompletesIn s message.now plain.now sent self.old m
+            → Represents self.new (acts_at s (completes (Some sent)) m) }
+        ensures posts { (m : Manager Half) (s : ℕ) (sent : Sent) → Represents self.old m → CompletesIn s message.now plain.now sent self.old m
             → posts.new.items ≡ posts.old.items ++ due_at s (completes (Some sent)) m }
     {
         let Some(s) = self.connections.aimer(message.token) else {
             return;
         };
         let way = self.way(s);
-        self.connections.completed(s, message, plain, way, posts);
+        let change = Change::Complete(message, plain);
+        self.connections.change(s, change, way, posts);
     }
 
     /// How the end of a socket may post now.
@@ -313,8 +317,8 @@ impl SideCore {
         requires sound { IsSoundAt self.old.records.terms.size (conn_at self.old.desk.first self.old.records) }
         requires room { length posts.old.items ≤ 2 }
         ensures step { result ≡ flow_step self.old.desk.side self.old.desk.flow message.now view.now link.slot true }
-        ensures side { (m : Manager Half) → StandsFor self.old m → StandsFor self.new (confirms_link result link m) }
-        ensures posts { (m : Manager Half) → StandsFor self.old m → posts.new.items ≡ posts.old.items ++ confirming_posts result link m }
+        ensures side { (m : Manager Half) → Represents self.old m → Represents self.new (confirms_link result link m) }
+        ensures posts { (m : Manager Half) → Represents self.old m → posts.new.items ≡ posts.old.items ++ confirming_posts result link m }
     {
         let step = self.desk.land(link, message, view);
         confirmed(
@@ -333,18 +337,18 @@ impl SideCore {
         requires up { state_at s self.old ≡ IsUp }
         requires sound { IsSoundAt self.old.records.terms.size (conn_at s self.old.records) }
         requires room { length posts.old.items ≤ 3 }
-        ensures told { (m : Manager Half) → StandsFor self.old m → Plain result ≡ told_at s (Writes bytes.now) [] m }
-        ensures side { (m : Manager Half) → StandsFor self.old m → StandsFor self.new (acts_at s (call_of (Writes bytes.now) m) m) }
-        ensures posts { (m : Manager Half) → StandsFor self.old m → posts.new.items ≡ posts.old.items ++ due_at s (call_of (Writes bytes.now) m) m }
+        ensures told { (m : Manager Half) → Represents self.old m → Plain result ≡ told_at s (Writes bytes.now) [] m }
+        ensures side { (m : Manager Half) → Represents self.old m → Represents self.new (acts_at s (call_of (Writes bytes.now) m) m) }
+        ensures posts { (m : Manager Half) → Represents self.old m → posts.new.items ≡ posts.old.items ++ due_at s (call_of (Writes bytes.now) m) m }
     {
         let way = self.way(s);
-        reply_of(self.connections.write(s, bytes, way, posts))
+        reply_of(self.connections.change(s, Change::Write(bytes), way, posts))
     }
 
     /// What a read of `len` bytes would be told now.
     pub fn would_read(&self, s: u32, len: u32) -> EndReply
         requires up { state_at s self.now ≡ IsUp }
-        ensures { (m : Manager Half) → StandsFor self.now m → Answers m.records.terms.size (Reads len) (half_at s m.records) result }
+        ensures { (m : Manager Half) → Represents self.now m → Answers m.records.terms.size (Reads len) (half_at s m.records) result }
     {
         self.connections.would_read(s, len)
     }
@@ -356,16 +360,31 @@ impl SideCore {
         requires sound { IsSoundAt self.old.records.terms.size (conn_at s self.old.records) }
         requires few { length out.old < 2 ^ 32 }
         requires room { length posts.old.items ≤ 3 }
-        ensures told { (m : Manager Half) → StandsFor self.old m → Answers m.records.terms.size (Reads (length out.old)) (half_at s m.records) result }
+        ensures told { (m : Manager Half) → Represents self.old m → Answers m.records.terms.size (Reads (length out.old)) (half_at s m.records) result }
         ensures out { out.new ≡ handed_out result (route_at s self.old.records) self.old ++ drop (length (handed_out result (route_at s self.old.records) self.old)) out.old }
-        ensures side { (m : Manager Half) → StandsFor self.old m → StandsFor self.new (acts_at s (call_of (Reads (length out.old)) m) m) }
-        ensures posts { (m : Manager Half) → StandsFor self.old m → posts.new.items ≡ posts.old.items ++ due_at s (call_of (Reads (length out.old)) m) m }
+        ensures side { (m : Manager Half) → Represents self.old m → Represents self.new (acts_at s (call_of (Reads (length out.old)) m) m) }
+        ensures posts { (m : Manager Half) → Represents self.old m → posts.new.items ≡ posts.old.items ++ due_at s (call_of (Reads (length out.old)) m) m }
     {
         let way = self.way(s);
         let route = self.connections.route(s);
-        let reply = self.connections.read(s, out.len() as u32, way, posts);
+        let change = Change::Read(out.len() as u32);
+        let reply = self.connections.change(s, change, way, posts);
         hand_out(&self.regions, route, reply, out);
         reply
+    }
+
+    /// The application of an established end finishes, closes or aborts it (RFC 7609, section 4.8). What is
+    /// due then is posted.
+    pub fn call(&mut self, s: u32, call: EndCall, posts: &mut ArrayVec<Post, 6>) -> Reply
+        requires up { state_at s self.old ≡ IsUp }
+        requires sound { IsSoundAt self.old.records.terms.size (conn_at s self.old.records) }
+        requires room { length posts.old.items ≤ 3 }
+        ensures told { (m : Manager Half) → Represents self.old m → Plain result ≡ told_at s (named call) [] m }
+        ensures side { (m : Manager Half) → Represents self.old m → Represents self.new (acts_at s (call_of (named call) m) m) }
+        ensures posts { (m : Manager Half) → Represents self.old m → posts.new.items ≡ posts.old.items ++ due_at s (call_of (named call) m) m }
+    {
+        let way = self.way(s);
+        reply_of(self.connections.change(s, Change::End(call), way, posts))
     }
 
     /// The bytes of a write that an end here posted, in two parts. The token is that of the CDC message
@@ -385,7 +404,7 @@ impl SideCore {
     /// The snapshot that the end whose messages carry this token posted last.
     pub fn last(&self, token: u32) -> Snapshot
         requires { IsSome (aimer token self.now.records) }
-        ensures { (m : Manager Half) (s : ℕ) → StandsFor self.now m → aimer token self.now.records ≡ Some s → result ≡ (half_at s m.records).last }
+        ensures { (m : Manager Half) (s : ℕ) → Represents self.now m → aimer token self.now.records ≡ Some s → result ≡ (half_at s m.records).last }
     {
         let Some(s) = self.connections.aimer(token) else {
             unreachable!()

@@ -19,7 +19,7 @@ use Rattle.conn_end.specs.Kept.{Kept}
 use Rattle.rc_link.specs.Wire.{Queues, room_of}
 use Rattle.side_core.specs.Records.{conn_at}
 use Rattle.side_core.specs.Acting.{IsSoundAt, acts_at, call_of, due_at}
-use Rattle.side_core.specs.Manager.{Manager, StandsFor, state_at}
+use Rattle.side_core.specs.Manager.{Manager, Represents, state_at}
 use Rattle.world_core.specs.declared.host.Host.{Host}
 use Rattle.world_core.specs.OneLink.{the_link}
 use Rattle.pipe_model.specs.Fits.{Fits}
@@ -79,10 +79,10 @@ module _ (setup : Setup) (payload : List ℕ) (past : List Entry) (heard : ℕ) 
         let peer-stays = let k = nothing (buffer_of setup payload (other X) 1 past ∷ []) in k.kept (other X) in
         hosts-after setup payload hosts.set past heard hosts.played event built actor few X mine peers
         (sent-after setup payload hosts.set past heard hosts.played event built actor own mine o
-        (stands-on setup payload past E X mine.core (plain_at X) (none-lands (other X)) mine-stays (subst (λ (v : Manager Kept). StandsFor v (plain_at X)) (sym mc) o.side))
+        (stands-on setup payload past E X mine.core (plain_at X) (none-lands (other X)) mine-stays (subst (λ (v : Manager Kept). Represents v (plain_at X)) (sym mc) o.side))
         [] (manager_of setup payload [] X (E ∷ past)) refl [] (sym n.posts) (wire_at 1 own) (sym (is.moves_none X (wire_at 1 own))) (mw ∙ sym (unposted (wire_at 1 own))) ml mf)
         (kept-after setup payload hosts.set past heard hosts.played event built actor (other X) (twice X) theirs peers t
-        (stands-on setup payload past E (other X) peers.core (plain_at (other X)) (none-lands (other (other X))) peer-stays (subst (λ (v : Manager Kept). StandsFor v (plain_at (other X))) (sym pc) t.side))
+        (stands-on setup payload past E (other X) peers.core (plain_at (other X)) (none-lands (other (other X))) peer-stays (subst (λ (v : Manager Kept). Represents v (plain_at (other X))) (sym pc) t.side))
         (pw ∙ sym (is.moves_none (other X) (wire_at 1 theirs))) pl pf)
 
     -- streams in which nothing moves
@@ -130,11 +130,11 @@ module _ (setup : Setup) (payload : List ℕ) (past : List Entry) (heard : ℕ) 
           subst (λ w. length (filter goes_on_wire (due_at s (call_of call (plain_at X)) (plain_at X))) ≤ room_of w) (is.moves_none X (wire_at 1 own))
           (room-after setup payload hosts.set past heard hosts.played event built actor (wire_at 1 own) o.wire (due_at s (call_of call (plain_at X)) (plain_at X)) (sym here.posts))
 
-      pub may-go : (v : Manager Kept) → StandsFor v (acts_at s (call_of call (plain_at X)) (plain_at X)) → MaySendAll (length own.flows.items) v (due_at s (call_of call (plain_at X)) (plain_at X))
+      pub may-go : (v : Manager Kept) → Represents v (acts_at s (call_of call (plain_at X)) (plain_at X)) → MaySendAll (length own.flows.items) v (due_at s (call_of call (plain_at X)) (plain_at X))
       may-go v stands =
           let o = hosts.own in
           let here = called (buffer_of setup payload X 1 past ∷ []) in
-          may-after setup payload hosts.set past heard hosts.played event built actor few (buffer_of setup payload X 1 past ∷ []) v (subst (λ (m : Manager Half). StandsFor v m) (sym here.own) stands)
+          may-after setup payload hosts.set past heard hosts.played event built actor few (buffer_of setup payload X 1 past ∷ []) v (subst (λ (m : Manager Half). Represents v m) (sym here.own) stands)
           (due_at s (call_of call (plain_at X)) (plain_at X)) (sym here.posts) (length own.flows.items) o.sockets
 
       pub sound-here : IsSoundAt own.core.records.terms.size (conn_at s own.core.records)

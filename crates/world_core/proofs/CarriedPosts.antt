@@ -13,7 +13,7 @@ use Rattle.pipe_model.specs.declared.post.Placed.{Placed}
 use Rattle.pipe_model.specs.History.{numbered}
 use Rattle.pipe_model.specs.Wires.{is_on}
 use Rattle.pipe_model.specs.Ends.{Half}
-use Rattle.rc_link.specs.declared.Carried.{Carried}
+use Rattle.rc_link.specs.declared.InFlight.{InFlight}
 use Rattle.rc_link.specs.Wire.{placed}
 use Rattle.side_core.specs.Records.{aimer, half_at}
 use Rattle.side_core.specs.Manager.{Manager}
@@ -37,13 +37,13 @@ goes-on sockets x (Llc from l m) f = sym (on-wire x from l f)
 goes-on sockets x (Clc from s l m) f = sym (and-false (same_side x from))
 
 module _ (m : Manager Half) (entry : ℕ) where
-  abbrev made_of : ℕ → Post → Carried
+  abbrev made_of : ℕ → Post → InFlight
   made_of first post = record { at = record { entry = entry; post = first }; post = post; plain = plain_of m post }
 
   abbrev at_place : ℕ → Post → Placed
   at_place first post = record { at = record { entry = entry; post = first }; post = post }
 
-  placed-if : (first : ℕ) (post : Post) (b : Bool) (cs : List Carried) → map placed (if b then made_of first post ∷ cs else cs) ≡ cond b (at_place first post ∷ map placed cs) (map placed cs)
+  placed-if : (first : ℕ) (post : Post) (b : Bool) (cs : List InFlight) → map placed (if b then made_of first post ∷ cs else cs) ≡ cond b (at_place first post ∷ map placed cs) (map placed cs)
   placed-if first post true cs = refl
   placed-if first post false cs = refl
 
@@ -55,7 +55,7 @@ module _ (m : Manager Half) (entry : ℕ) where
       (ap (λ b. cond b (at_place first post ∷ map placed (carried_from m entry (first + 1) posts)) (map placed (carried_from m entry (first + 1) posts))) (goes-on sockets x post f.0) ∙
       ap (λ cs. cond (is_on the_link x post) (at_place first post ∷ cs) cs) (carried-placed sockets x (first + 1) posts f.1))
 
-  long-if : (first : ℕ) (post : Post) (b : Bool) (cs : List Carried) (posts : List Post) → length cs ≡ length posts → length (if b then made_of first post ∷ cs else cs) ≡ length (cond b (post ∷ posts) posts)
+  long-if : (first : ℕ) (post : Post) (b : Bool) (cs : List InFlight) (posts : List Post) → length cs ≡ length posts → length (if b then made_of first post ∷ cs else cs) ≡ length (cond b (post ∷ posts) posts)
   long-if first post true cs posts e = ap (λ n. suc n) e
   long-if first post false cs posts e = e
 
@@ -82,7 +82,7 @@ module _ (m : Manager Half) (entry : ℕ) where
   cons-told s None ks = refl
   cons-told s (Some k) ks = refl
 
-  plains-if : (x : Side) (token first : ℕ) (post : Post) (b : Bool) → goes_on_wire post ≡ b → (cs : List Carried) (ks : List CdcMessage) → plains x token cs ≡ map (λ j. told_by token) ks
+  plains-if : (x : Side) (token first : ℕ) (post : Post) (b : Bool) → goes_on_wire post ≡ b → (cs : List InFlight) (ks : List CdcMessage) → plains x token cs ≡ map (λ j. told_by token) ks
       → plains x token (if b then made_of first post ∷ cs else cs) ≡ map (λ j. told_by token) (cons_option (cdc_under x token post) ks)
   plains-if x token first post true g cs ks e = ap (λ o. cons_option o (plains x token cs)) (plain-one x token first post) ∙ (ap (λ ss. cons_option (option_map (λ j. told_by token) (cdc_under x token post)) ss) e ∙ cons-told (told_by token) (cdc_under x token post) ks)
   plains-if x token first (Clc from s l k) false g cs ks e = e

@@ -21,9 +21,9 @@ use Rattle.pipe_model.specs.Fallback.{written}
 use Rattle.pipe_model.specs.Ends.{Half, completes}
 use Rattle.pipe_model.specs.Replies.{told}
 use Rattle.pipe_model.specs.Lawful.{posted}
-use Rattle.rc_link.specs.declared.Carried.{Carried}
+use Rattle.rc_link.specs.declared.InFlight.{InFlight}
 use Rattle.rc_link.specs.Wire.{Queues, placed, completing as would_complete, with_completed, room_of}
-use Rattle.side_core.specs.Manager.{Manager, StandsFor}
+use Rattle.side_core.specs.Manager.{Manager, Represents}
 use Rattle.world_core.specs.declared.host.Host.{Host}
 use Rattle.world_core.specs.declared.host.Outflow.{Outflow}
 use Rattle.world_core.specs.declared.moment.Moment.{Moment}
@@ -96,7 +96,7 @@ module _ (setup : Setup) (payload : List ℕ) (past : List Entry) (heard : ℕ) 
   none-lands y = if-none past
 
   -- the manager that stands for what becomes of the old one
-  pub stands-then : (g : Host) (m : Manager Half) → Own ≡ m → StandsFor g.core m → StandsFor g.core Then
+  pub stands-then : (g : Host) (m : Manager Half) → Own ≡ m → Represents g.core m → Represents g.core Then
   stands-then g m is stands = stands-on setup payload past Now x g.core m (none-lands (other x)) is stands
 
   -- the peer's host stays
@@ -112,7 +112,7 @@ module _ (setup : Setup) (payload : List ℕ) (past : List Entry) (heard : ℕ) 
       }
 
   -- the host of the side that completes, after it has sent what is posted
-  own-host : (g : Host) → StandsFor g.core Then → (wire_at 1 g) ≡ with_posts (carried_from Then (next_number past) 1 (posted setup payload past heard (Complete 1 x))) (moved x (Complete 1 x) (wire_at 1 h))
+  own-host : (g : Host) → Represents g.core Then → (wire_at 1 g) ≡ with_posts (carried_from Then (next_number past) 1 (posted setup payload past heard (Complete 1 x))) (moved x (Complete 1 x) (wire_at 1 h))
       → g.flows.items ≡ puts_all (posted setup payload past heard (Complete 1 x)) h.flows.items → IsHostAfter setup payload x (Now ∷ past) g
   own-host g stands wire_is flows_are =
       let own = before.own in
@@ -127,7 +127,7 @@ module _ (setup : Setup) (payload : List ℕ) (past : List Entry) (heard : ℕ) 
       }
 
   pub both-hosts : (g : Host) → manager_of setup payload (buffer_of setup payload (other x) 1 past ∷ []) (other x) (Now ∷ past) ≡ manager_of setup payload (buffer_of setup payload (other x) 1 past ∷ []) (other x) past
-      → StandsFor g.core Then → (wire_at 1 g) ≡ with_posts (carried_from Then (next_number past) 1 (posted setup payload past heard (Complete 1 x))) (moved x (Complete 1 x) (wire_at 1 h))
+      → Represents g.core Then → (wire_at 1 g) ≡ with_posts (carried_from Then (next_number past) 1 (posted setup payload past heard (Complete 1 x))) (moved x (Complete 1 x) (wire_at 1 h))
       → g.flows.items ≡ puts_all (posted setup payload past heard (Complete 1 x)) h.flows.items → AreHostsAfter setup payload (Now ∷ past) Heard x g k
   both-hosts g kept stands wire_is flows_are = hosts-after setup payload before.set past heard before.played (Complete 1 x) refl actor few x g k (own-host g stands wire_is flows_are) (their-host kept)
 
@@ -163,14 +163,14 @@ module _ (at : Moment) (x : Side) (h k : Host) (hosts : AreHosts at x h k) (few 
   -- both hosts, by what becomes of the acting one
   pub is-played : (g : Host) (reply : Reply) (posts : List Post) (m : Manager Half) → reply ≡ completed_told (completing 1 x Past) → posts ≡ Posts
       → ((actor : ℕ) → manager_of S P TheirRegions (other x) (After actor ∷ Past) ≡ manager_of S P TheirRegions (other x) Past)
-      → ((actor : ℕ) → manager_of S P OwnRegions x (After actor ∷ Past) ≡ m) → StandsFor g.core m
-      → ((v : Manager Half) → StandsFor g.core v → (wire_at 1 g) ≡ with_posts (carried_from v (next_number Past) 1 Posts) (moved x (Complete 1 x) (wire_at 1 h)))
+      → ((actor : ℕ) → manager_of S P OwnRegions x (After actor ∷ Past) ≡ m) → Represents g.core m
+      → ((v : Manager Half) → Represents g.core v → (wire_at 1 g) ≡ with_posts (carried_from v (next_number Past) 1 Posts) (moved x (Complete 1 x) (wire_at 1 h)))
       → g.flows.items ≡ puts_all Posts h.flows.items → IsPlayedBy at (Complete 1 x) reply posts x g k
   is-played g reply posts m reply_now posts_now kept is stands wire_is flows_are = record {
     reply_is = reply_now;
     posts_are = posts_now;
     after = λ actor.
-        let stood : StandsFor g.core (Then S P Past at.heard x h k hosts few-before actor) = stands-then S P Past at.heard x h k hosts few-before actor g m (is actor) stands in
+        let stood : Represents g.core (Then S P Past at.heard x h k hosts few-before actor) = stands-then S P Past at.heard x h k hosts few-before actor g m (is actor) stands in
         both-hosts S P Past at.heard x h k hosts few-before actor g (kept actor) stood (wire_is (Then S P Past at.heard x h k hosts few-before actor) stood) flows_are;
   }
 
@@ -181,7 +181,7 @@ module _ (at : Moment) (x : Side) (h k : Host) (hosts : AreHosts at x h k) (few 
       let own = hosts.own in
       let first = none OwnRegions 0 in
       let empty : Posts ≡ [] = first.posts in
-      is-played g reply posts (manager_of S P OwnRegions x Past) reply_now (posts_now ∙ sym empty) (λ actor. let q = none TheirRegions actor in q.kept (other x)) (λ actor. let q = none OwnRegions actor in q.kept x) (subst (λ (v : Manager Kept). StandsFor v (manager_of S P OwnRegions x Past)) (sym left.core) own.side)
+      is-played g reply posts (manager_of S P OwnRegions x Past) reply_now (posts_now ∙ sym empty) (λ actor. let q = none TheirRegions actor in q.kept (other x)) (λ actor. let q = none OwnRegions actor in q.kept x) (subst (λ (v : Manager Kept). Represents v (manager_of S P OwnRegions x Past)) (sym left.core) own.side)
       (λ v stands. left.wire ∙ (sym (complete-own x 1 (wire_at 1 h)) ∙ (sym (unposted (moved x (Complete 1 x) (wire_at 1 h))) ∙ ap (λ (ps : List Post). with_posts (carried_from v (next_number Past) 1 ps) (moved x (Complete 1 x) (wire_at 1 h))) (sym empty))))
       (left.flows ∙ ap (λ (ps : List Post). puts_all ps h.flows.items) (sym empty))
 
@@ -194,7 +194,7 @@ module _ (at : Moment) (x : Side) (h k : Host) (hosts : AreHosts at x h k) (few 
       nothing-else g Idle posts (sym (ap (λ o. completed_told o) nothing)) posts_now (λ regions actor. completes-nothing S set.one P Past at.heard hosts.played lent-now regions x actor nothing) left
 
 -- a post has just completed
-module _ (at : Moment) (x : Side) (c : Carried) (h k : Host) (done : HasCompleted at x c h k) (few : length at.history.now < 2 ^ 18) where
+module _ (at : Moment) (x : Side) (c : InFlight) (h k : Host) (done : HasCompleted at x c h k) (few : length at.history.now < 2 ^ 18) where
   abbrev Before : Host
   Before = done.was
 
@@ -234,19 +234,19 @@ module _ (at : Moment) (x : Side) (c : Carried) (h k : Host) (done : HasComplete
           (next.stands ∙ ap (λ p. Some p) e)) left
 
 -- what is known of a CDC message that completes
-pub record IsMessageDone (at : Moment) (x : Side) (c : Carried) (m : CdcMessage) (v : Manager Kept) : Type 0 where
+pub record IsMessageDone (at : Moment) (x : Side) (c : InFlight) (m : CdcMessage) (v : Manager Kept) : Type 0 where
   pub s : ℕ
   pub sent : Sent
   pub may : MayCompleteIn m c.plain v
   pub completes : CompletesIn s m c.plain sent v (manager_of at.setup.now at.payload.now (buffer_of at.setup.now at.payload.now x 1 (past_of at) ∷ []) x (past_of at))
   pub done : (regions : List Buffer) (actor : ℕ) → IsDone at.setup.now at.payload.now regions x s sent (entry_of at.setup.now at.payload.now (past_of at) at.heard actor (Complete 1 x)) (past_of at)
 
-module _ (at : Moment) (x : Side) (c : Carried) (h k : Host) (completed : HasCompleted at x c h k) (few : length at.history.now < 2 ^ 18) (from : Side) (link : LinkId) (m : CdcMessage) (is_cdc : c.post ≡ Cdc from link m) where
-  own-stands : StandsFor h.core (manager_of at.setup.now at.payload.now (buffer_of at.setup.now at.payload.now x 1 (past_of at) ∷ []) x (past_of at))
+module _ (at : Moment) (x : Side) (c : InFlight) (h k : Host) (completed : HasCompleted at x c h k) (few : length at.history.now < 2 ^ 18) (from : Side) (link : LinkId) (m : CdcMessage) (is_cdc : c.post ≡ Cdc from link m) where
+  own-stands : Represents h.core (manager_of at.setup.now at.payload.now (buffer_of at.setup.now at.payload.now x 1 (past_of at) ∷ []) x (past_of at))
   own-stands =
       let hosts = completed.hosts in
       let own = hosts.own in
-      subst (λ (v : Manager Kept). StandsFor v (manager_of at.setup.now at.payload.now (buffer_of at.setup.now at.payload.now x 1 (past_of at) ∷ []) x (past_of at))) (sym completed.core) own.side
+      subst (λ (v : Manager Kept). Represents v (manager_of at.setup.now at.payload.now (buffer_of at.setup.now at.payload.now x 1 (past_of at) ∷ []) x (past_of at))) (sym completed.core) own.side
 
   pub message-done : IsMessageDone at x c m h.core
   message-done =
@@ -268,8 +268,8 @@ module _ (at : Moment) (x : Side) (c : Carried) (h k : Host) (completed : HasCom
 
   -- what its end makes of that, and posts
   module _ (d : IsMessageDone at x c m h.core) (v : Manager Kept) (old posts : List Post) (none : old ≡ [])
-      (side : (n : Manager Half) (s : ℕ) (sent : Sent) → StandsFor h.core n → CompletesIn s m c.plain sent h.core n → StandsFor v (acts_at s (completes (Some sent)) n))
-      (due : (n : Manager Half) (s : ℕ) (sent : Sent) → StandsFor h.core n → CompletesIn s m c.plain sent h.core n → posts ≡ old ++ due_at s (completes (Some sent)) n) where
+      (side : (n : Manager Half) (s : ℕ) (sent : Sent) → Represents h.core n → CompletesIn s m c.plain sent h.core n → Represents v (acts_at s (completes (Some sent)) n))
+      (due : (n : Manager Half) (s : ℕ) (sent : Sent) → Represents h.core n → CompletesIn s m c.plain sent h.core n → posts ≡ old ++ due_at s (completes (Some sent)) n) where
     abbrev Was : Manager Half
     Was = manager_of at.setup.now at.payload.now (buffer_of at.setup.now at.payload.now x 1 (past_of at) ∷ []) x (past_of at)
 
@@ -283,7 +283,7 @@ module _ (at : Moment) (x : Side) (c : Carried) (h k : Host) (completed : HasCom
         let q = d.done (buffer_of at.setup.now at.payload.now x 1 (past_of at) ∷ []) 0 in
         due Was d.s d.sent own-stands d.completes ∙ (ap (λ (ps : List Post). ps ++ due_at d.s (completes (Some d.sent)) Was) none ∙ sym q.posts)
 
-    acted : StandsFor v (acts_at d.s (completes (Some d.sent)) Was)
+    acted : Represents v (acts_at d.s (completes (Some d.sent)) Was)
     acted = side Was d.s d.sent own-stands d.completes
 
     left-wire : (wire_at 1 h) ≡ moved x (Complete 1 x) (wire_at 1 completed.was)
@@ -301,7 +301,7 @@ module _ (at : Moment) (x : Side) (c : Carried) (h k : Host) (completed : HasCom
         let lendings = lent-after at.setup.now at.payload.now (past_of at) at.heard x First k hosts (few-before at x First k hosts few) 0 in
         subst (λ n. MaySendAll n v posts) (sym (ap (λ (fs : List Outflow). length fs) completed.flows ∙ own.sockets)) (subst (λ (ps : List Post). MaySendAll at.setup.now.sockets v ps) (sym posts-now)
         (data-may-go at.setup.now.sockets v (posted at.setup.now at.payload.now (past_of at) at.heard (Complete 1 x))
-        (each-aimed at.setup.now set.one at.payload.now e (past_of at) n p lendings x refl (buffer_of at.setup.now at.payload.now x 1 (past_of at) ∷ []) v (subst (λ (m : Manager Half). StandsFor v m) (sym q.own) acted))
+        (each-aimed at.setup.now set.one at.payload.now e (past_of at) n p lendings x refl (buffer_of at.setup.now at.payload.now x 1 (past_of at) ∷ []) v (subst (λ (m : Manager Half). Represents v m) (sym q.own) acted))
         (no-clc-posts at.setup.now set.one at.payload.now e (past_of at) n p refl) x (let a = posts-from at.setup.now set.one at.payload.now e (past_of at) n p in a.from)))
 
     pub has-room : length (filter goes_on_wire posts) ≤ room_of (wire_at 1 h)
@@ -314,7 +314,7 @@ module _ (at : Moment) (x : Side) (c : Carried) (h k : Host) (completed : HasCom
         (room-own at.setup.now set.one at.payload.now (entry_of at.setup.now at.payload.now (past_of at) at.heard 0 (Complete 1 x)) (past_of at) (at.heard + handed (told at.setup.now at.payload.now (past_of at) (Complete 1 x)))
         (play at.setup.now at.payload.now (past_of at) at.heard x First k hosts (few-before at x First k hosts few) 0) x refl (wire_at 1 completed.was) own.wire))
 
-    pub message-completes : (g : Host) (entry : ℕ) → entry ≡ length at.history.now + 1 → g.core ≡ v → ((n : Manager Half) → StandsFor v n → (wire_at 1 g) ≡ with_posts (carried_from n entry 1 posts) (wire_at 1 h))
+    pub message-completes : (g : Host) (entry : ℕ) → entry ≡ length at.history.now + 1 → g.core ≡ v → ((n : Manager Half) → Represents v n → (wire_at 1 g) ≡ with_posts (carried_from n entry 1 posts) (wire_at 1 h))
         → g.flows.items ≡ puts_all posts h.flows.items → IsPlayedBy at (Complete 1 x) (Completed c.at) posts x g k
     message-completes g entry number core_is wire_is flows_are =
         let hosts = completed.hosts in
@@ -322,9 +322,9 @@ module _ (at : Moment) (x : Side) (c : Carried) (h k : Host) (completed : HasCom
         is-played at x First k hosts few g (Completed c.at) posts (acts_at d.s (completes (Some d.sent)) Was) (told-now at x c h k completed few) posts-now
         (λ actor. let q = d.done (buffer_of at.setup.now at.payload.now (other x) 1 (past_of at) ∷ []) actor in q.theirs)
         (λ actor. let q = d.done (buffer_of at.setup.now at.payload.now x 1 (past_of at) ∷ []) actor in q.own)
-        (subst (λ u. StandsFor u (acts_at d.s (completes (Some d.sent)) Was)) (sym core_is) acted)
+        (subst (λ u. Represents u (acts_at d.s (completes (Some d.sent)) Was)) (sym core_is) acted)
         (λ n stands.
-        wire_is n (subst (λ u. StandsFor u n) core_is stands)
+        wire_is n (subst (λ u. Represents u n) core_is stands)
         ∙ (ap (λ i. with_posts (carried_from n i 1 posts) (wire_at 1 h)) next
         ∙ (ap (λ (ps : List Post). with_posts (carried_from n (next_number (past_of at)) 1 ps) (wire_at 1 h)) posts-now
         ∙ ap (λ (w : Queues). with_posts (carried_from n (next_number (past_of at)) 1 (posted at.setup.now at.payload.now (past_of at) at.heard (Complete 1 x))) w) left-wire)))

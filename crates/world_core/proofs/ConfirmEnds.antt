@@ -23,11 +23,11 @@ use Rattle.pipe_model.specs.Fabric.{Fabric, peer}
 use Rattle.pipe_model.specs.Connections.{WaitsLink}
 use Rattle.pipe_model.specs.Wires.{unlanded}
 use Rattle.pipe_model.specs.Messages.{confirm_link}
-use Rattle.rc_link.specs.declared.Carried.{Carried}
+use Rattle.rc_link.specs.declared.InFlight.{InFlight}
 use Rattle.rc_link.specs.Wire.{Queues, placed}
 use Rattle.conn_end.specs.Kept.{Kept}
 use Rattle.side_core.specs.Desk.{Desk, IsConfirmLink, IsPendingFor}
-use Rattle.side_core.specs.Manager.{Manager, StandsFor, state_at}
+use Rattle.side_core.specs.Manager.{Manager, Represents, state_at}
 use Rattle.side_core.specs.Acting.{MayConfirm, IsWaitingFor}
 use Rattle.world_core.specs.OneLink.{Stage, NoLink, Begun, Made, Asking, LiveAtA, LiveAtBoth, the_link, llc_of, is_of_first}
 use Rattle.world_core.specs.Sockets.{IsWorld}
@@ -99,7 +99,7 @@ module _ (setup : Setup) (payload : List ℕ) (set : IsWorldSet setup payload) (
     pub step : (view : LinkView) → flow_step v.desk.side v.desk.flow message view 1 true ≡ Live reply true
     pub may : (view : LinkView) → MayConfirm message view the_link v
 
-  module _ (v : Manager Kept) (y : Side) (st : StandsFor v (manager_of setup payload regions y past)) {from to : Stage} {reply : Bool} (c : Confirming y (first_on y past) from to reply) (world : IsWorld setup from past) where
+  module _ (v : Manager Kept) (y : Side) (st : Represents v (manager_of setup payload regions y past)) {from to : Stage} {reply : Bool} (c : Confirming y (first_on y past) from to reply) (world : IsWorld setup from past) where
     waits : IsWaiting setup y (first_on y past) past
     waits = is-waiting setup past c world
 
@@ -123,7 +123,7 @@ module _ (setup : Setup) (payload : List ℕ) (set : IsWorldSet setup payload) (
       };
     }
 
-  asked-a : (v : Manager Kept) → StandsFor v (manager_of setup payload regions A past) → (qp : ℕ) → IsWorld setup (Asking (first_on A past) qp) past → Confirms A (confirm_link setup B false the_link qp) true v
+  asked-a : (v : Manager Kept) → Represents v (manager_of setup payload regions A past) → (qp : ℕ) → IsWorld setup (Asking (first_on A past) qp) past → Confirms A (confirm_link setup B false the_link qp) true v
   asked-a v st qp world =
       let w = st.works in
       let link = world.link in
@@ -133,7 +133,7 @@ module _ (setup : Setup) (payload : List ℕ) (set : IsWorldSet setup payload) (
       (ap (λ (d : Desk). link_at 1 d.links.known) w.desk ∙ ap (λ (f : Fabric). link_at 1 (peer A f).table) link.fabric_is)
       (ap (λ (d : Desk). phase_at 1 d.links.known) w.desk ∙ ap (λ (f : Fabric). phase_at 1 (peer A f).table) link.fabric_is)
 
-  answered-b : (v : Manager Kept) → StandsFor v (manager_of setup payload regions B past) → (qp : ℕ) → IsWorld setup (LiveAtA (first_on B past) qp) past → Confirms B (confirm_link setup A true the_link qp) false v
+  answered-b : (v : Manager Kept) → Represents v (manager_of setup payload regions B past) → (qp : ℕ) → IsWorld setup (LiveAtA (first_on B past) qp) past → Confirms B (confirm_link setup A true the_link qp) false v
   answered-b v st qp world =
       let w = st.works in
       let link = world.link in
@@ -152,7 +152,7 @@ module _ (setup : Setup) (payload : List ℕ) (set : IsWorldSet setup payload) (
     pub step : (view : LinkView) → flow_step v.desk.side v.desk.flow message view link.slot true ≡ Live reply true
     pub may : (view : LinkView) → MayConfirm message view link v
 
-  confirmation-by : (x : Side) (v : Manager Kept) → StandsFor v (manager_of setup payload regions (other x) past) → (from : Side) (link : LinkId) (message : LlcMessage) (q : Post) (reply : Bool) → Llc from link message ≡ q → Front setup past x q reply → Confirmation x from link message v
+  confirmation-by : (x : Side) (v : Manager Kept) → Represents v (manager_of setup payload regions (other x) past) → (from : Side) (link : LinkId) (message : LlcMessage) (q : Post) (reply : Bool) → Llc from link message ≡ q → Front setup past x q reply → Confirmation x from link message v
   confirmation-by x v st from link message q reply e (asks qp world) =
       let k = asked-a v st qp world in
       subst (λ (m : LlcMessage). Confirmation B from link m v) (sym (message-is e))
@@ -163,7 +163,7 @@ module _ (setup : Setup) (payload : List ℕ) (set : IsWorldSet setup payload) (
       record { reply = false; front = subst (λ q. Front setup past A q false) (sym (ap (λ m. Llc from link m) (sym (message-is e)) ∙ e)) (answers qp world); from_is = from-is e; link_is = link-is e; step = λ view. ap (λ (l : LinkId). flow_step v.desk.side v.desk.flow (confirm_link setup A true the_link qp) view l.slot true) (link-is e) ∙ k.step view; may = λ view. subst (λ (l : LinkId). MayConfirm (confirm_link setup A true the_link qp) view l v) (sym (link-is e)) (k.may view) }
 
   -- it is confirmed
-  pub confirmation : (x : Side) (v : Manager Kept) → StandsFor v (manager_of setup payload regions (other x) past) → (w : Queues) → IsWireAfter setup payload x past w → (c : Carried) (rest : List Carried) (from : Side) (link : LinkId) (message : LlcMessage)
+  pub confirmation : (x : Side) (v : Manager Kept) → Represents v (manager_of setup payload regions (other x) past) → (w : Queues) → IsWireAfter setup payload x past w → (c : InFlight) (rest : List InFlight) (from : Side) (link : LinkId) (message : LlcMessage)
       → w.waiting ≡ c ∷ rest → c.post ≡ Llc from link message → Confirmation x from link message v
   confirmation x v st w wire c rest from link message q e =
       let queue : unlanded the_link x past ≡ placed c ∷ map placed rest = sym wire.waiting ∙ ap (λ cs. map placed cs) q in

@@ -17,7 +17,7 @@ use Rattle.pipe_model.specs.Lending.{Lending, lends_by}
 use Rattle.conn_end.specs.Kept.{Kept}
 use Rattle.side_core.specs.declared.route.Route.{Route}
 use Rattle.side_core.specs.Records.{Connection, Stands, StandsAt, conn_at, has_token, is_aimed_at, holder, aimer}
-use Rattle.side_core.specs.Manager.{Manager, StandsFor, state_at, no_hand}
+use Rattle.side_core.specs.Manager.{Manager, Represents, state_at, no_hand}
 use Rattle.side_core.proofs.Managers.{aimers_same}
 use Rattle.side_core.proofs.Elements.{alike_position}
 use Rattle.world_core.specs.Played.{IsOneLink, IsPlayed}
@@ -66,7 +66,7 @@ beside (Some k) (Some d) c st e = record { kept = k; kept_is = refl; stands = su
 abbrev pub plain_conn : Setup → List ℕ → Side → List Entry → ℕ → Lending → Connection Half
 plain_conn setup payload x past s l = record { route = route_of x s past l; end = end_of setup payload x s past }
 
-module _ (setup : Setup) (payload : List ℕ) (regions : List Buffer) (x : Side) (past : List Entry) (v : Manager Kept) (st : StandsFor v (manager_of setup payload regions x past)) where
+module _ (setup : Setup) (payload : List ℕ) (regions : List Buffer) (x : Side) (past : List Entry) (v : Manager Kept) (st : Represents v (manager_of setup payload regions x past)) where
   -- the state of an end
   pub state-is : (s : ℕ) → s < setup.sockets → state_at s v ≡ end_state x s past
   state-is s l =

@@ -13,7 +13,7 @@ use Rattle.pipe_model.specs.Words.{element_size, rmbs_of, elements_of}
 use Rattle.pipe_model.specs.Ends.{Half}
 use Rattle.pipe_model.specs.Fabric.{path_up}
 use Rattle.rc_link.specs.Wire.{Queues, empty}
-use Rattle.side_core.specs.Manager.{Manager, StandsFor, new_manager}
+use Rattle.side_core.specs.Manager.{Manager, Represents, new_manager}
 use Rattle.world_core.specs.declared.host.Host.{Host}
 use Rattle.world_core.specs.declared.host.Outflow.{Outflow}
 use Rattle.world_core.specs.Landed.{buffer_of}
@@ -54,9 +54,9 @@ module _ (setup : Setup) (payload : List ℕ) (one : IsOneLink setup) where
   first-wire : (x : Side) (h : Host) → h.wires.items ≡ replicate setup.links (empty (places_of setup x) false) → wire_at 1 h ≡ empty (places_of setup x) false
   first-wire x h e = ap (λ (ws : List Queues). wire_in 1 ws) (e ∙ ap (λ n. replicate n (empty (places_of setup x) false)) one.links)
 
-  pub fresh-host : (x : Side) (h : Host) → StandsFor h.core (new_manager x setup) → h.wires.items ≡ replicate setup.links (empty (places_of setup x) false) → h.flows.items ≡ replicate setup.sockets still → IsHostAfter setup payload x [] h
+  pub fresh-host : (x : Side) (h : Host) → Represents h.core (new_manager x setup) → h.wires.items ≡ replicate setup.links (empty (places_of setup x) false) → h.flows.items ≡ replicate setup.sockets still → IsHostAfter setup payload x [] h
   fresh-host x h core wires flows = record {
-    side = subst (λ (m : Manager Half). StandsFor h.core m) (new-is x) core;
+    side = subst (λ (m : Manager Half). Represents h.core m) (new-is x) core;
     wire = subst (λ w. IsWireAfter setup payload x [] w) (sym (first-wire x h wires)) (wire-first setup payload x);
     sockets = ap length flows ∙ length-replicate setup.sockets still;
     flows = λ s few. subst (λ (f : Outflow). IsStreamAfter payload x s [] f) (sym (ap (λ (fs : List Outflow). outflow_at s fs) flows ∙ all-still setup.sockets s)) (still-is payload x s);

@@ -16,7 +16,7 @@ use Rattle.pipe_model.specs.Lawful.{reply_of, posted}
 use Rattle.pipe_model.specs.Ends.{Half}
 use Rattle.conn_end.specs.Kept.{Kept}
 use Rattle.rc_link.specs.Wire.{Queues, room_of}
-use Rattle.side_core.specs.Manager.{Manager, StandsFor}
+use Rattle.side_core.specs.Manager.{Manager, Represents}
 use Rattle.world_core.specs.declared.host.Host.{Host}
 use Rattle.world_core.specs.declared.host.Outflow.{Outflow}
 use Rattle.world_core.specs.OneLink.{the_link}
@@ -57,10 +57,10 @@ module _ (setup : Setup) (payload : List ℕ) (past : List Entry) (e : Entry) wh
 
   -- so its manager stands for what becomes of the old one
   pub stands-on : (y : Side) (v : Manager Kept) (m : Manager Half) → landing_now the_link (other y) e past ≡ 0
-      → manager_of setup payload (buffer_of setup payload y 1 past ∷ []) y (e ∷ past) ≡ m → StandsFor v m
-      → StandsFor v (manager_of setup payload (buffer_of setup payload y 1 (e ∷ past) ∷ []) y (e ∷ past))
+      → manager_of setup payload (buffer_of setup payload y 1 past ∷ []) y (e ∷ past) ≡ m → Represents v m
+      → Represents v (manager_of setup payload (buffer_of setup payload y 1 (e ∷ past) ∷ []) y (e ∷ past))
   stands-on y v m none is stands =
-      subst (λ (b : Buffer). StandsFor v (manager_of setup payload (b ∷ []) y (e ∷ past))) (sym (buffer-kept y none)) (subst (λ (k : Manager Half). StandsFor v k) (sym is) stands)
+      subst (λ (b : Buffer). Represents v (manager_of setup payload (b ∷ []) y (e ∷ past))) (sym (buffer-kept y none)) (subst (λ (k : Manager Half). Represents v k) (sym is) stands)
 
 -- the entry of an event
 module _ (setup : Setup) (payload : List ℕ) (set : IsWorldSet setup payload) (past : List Entry) (heard : ℕ) (was : IsPlayed setup payload past heard) (event : Event) (built : Fits setup (length payload) event) (actor : ℕ) where
@@ -87,7 +87,7 @@ module _ (setup : Setup) (payload : List ℕ) (set : IsWorldSet setup payload) (
   lent-now = has-lendings setup set.one payload (Now ∷ past) Heard played-now
 
   -- what is posted may be sent
-  pub may-after : length past < 2 ^ 18 → (regions : List Buffer) (v : Manager Kept) → StandsFor v (manager_of setup payload regions X (Now ∷ past)) → (posts : List Post) → posts ≡ Posts
+  pub may-after : length past < 2 ^ 18 → (regions : List Buffer) (v : Manager Kept) → Represents v (manager_of setup payload regions X (Now ∷ past)) → (posts : List Post) → posts ≡ Posts
       → (sockets : ℕ) → sockets ≡ setup.sockets → MaySendAll sockets v posts
   may-after few regions v stands posts is sockets same =
       subst (λ n. MaySendAll n v posts) (sym same) (subst (λ (ps : List Post). MaySendAll setup.sockets v ps) (sym is)
@@ -106,7 +106,7 @@ module _ (setup : Setup) (payload : List ℕ) (set : IsWorldSet setup payload) (
   )
 
   -- the host of the side that acts, after it has sent what is posted
-  pub sent-after : (h g : Host) → IsHostAfter setup payload X past h → StandsFor g.core (Then X) → (regions : List Buffer) (m : Manager Half) → manager_of setup payload regions X (Now ∷ past) ≡ m
+  pub sent-after : (h g : Host) → IsHostAfter setup payload X past h → Represents g.core (Then X) → (regions : List Buffer) (m : Manager Half) → manager_of setup payload regions X (Now ∷ past) ≡ m
       → (posts : List Post) → posts ≡ Posts → (w : Queues) → w ≡ moved X event (wire_at 1 h) → (wire_at 1 g) ≡ with_posts (carried_from m (next_number past) 1 posts) w
       → length g.flows.items ≡ setup.sockets → Flowing payload setup.sockets X (Now ∷ past) g.flows.items → IsHostAfter setup payload X (Now ∷ past) g
   sent-after h g own side regions m is posts posts_are w left wire sockets flows =
@@ -122,7 +122,7 @@ module _ (setup : Setup) (payload : List ℕ) (set : IsWorldSet setup payload) (
       }
 
   -- that of its peer
-  pub kept-after : (y : Side) → acting_side event ≡ other y → (h g : Host) → IsHostAfter setup payload y past h → StandsFor g.core (Then y) → (wire_at 1 g) ≡ moved y event (wire_at 1 h)
+  pub kept-after : (y : Side) → acting_side event ≡ other y → (h g : Host) → IsHostAfter setup payload y past h → Represents g.core (Then y) → (wire_at 1 g) ≡ moved y event (wire_at 1 h)
       → length g.flows.items ≡ setup.sockets → Flowing payload setup.sockets y (Now ∷ past) g.flows.items → IsHostAfter setup payload y (Now ∷ past) g
   kept-after y acts h g own side wire sockets flows = record {
     side = side;

@@ -15,7 +15,7 @@ use Rattle.pipe_model.specs.Replies.{told}
 use Rattle.pipe_model.specs.Lawful.{reply_of, posted}
 use Rattle.conn_end.specs.Kept.{Kept}
 use Rattle.rc_link.specs.Wire.{Queues, room_of}
-use Rattle.side_core.specs.Manager.{Manager, StandsFor}
+use Rattle.side_core.specs.Manager.{Manager, Represents}
 use Rattle.world_core.specs.declared.host.Host.{Host}
 use Rattle.world_core.specs.OneLink.{the_link}
 use Rattle.pipe_model.specs.Fits.{Fits}
@@ -37,14 +37,14 @@ use Rattle.world_core.proofs.Plain.{twice}
 module _ (setup : Setup) (payload : List ℕ) (past : List Entry) (heard : ℕ) (event : Event) (h k : Host) (before : AreHostsAfter setup payload past heard (acting_side event) h k) (few : length past < 2 ^ 18)
     (built : Fits setup (length payload) event) (lands : (y : Side) (reply : Reply) (posts : List Post) (actor : ℕ) → landing_now the_link y (entry-of actor event reply posts) past ≡ 0)
     (unmoved : (y : Side) (w : Queues) → moved y event w ≡ w) (silent : (s : ℕ) (reply : Reply) → written payload (acting_side event) s event reply past ≡ []) (actor : ℕ) where
-  stands-then : (y : Side) (v : Manager Kept) → StandsFor v (manager_of setup payload (buffer_of setup payload y 1 past ∷ []) y (entry_of setup payload past heard actor event ∷ past))
-      → StandsFor v (manager_of setup payload (buffer_of setup payload y 1 (entry_of setup payload past heard actor event ∷ past) ∷ []) y (entry_of setup payload past heard actor event ∷ past))
+  stands-then : (y : Side) (v : Manager Kept) → Represents v (manager_of setup payload (buffer_of setup payload y 1 past ∷ []) y (entry_of setup payload past heard actor event ∷ past))
+      → Represents v (manager_of setup payload (buffer_of setup payload y 1 (entry_of setup payload past heard actor event ∷ past) ∷ []) y (entry_of setup payload past heard actor event ∷ past))
   stands-then y v st =
       stands-on setup payload past (entry_of setup payload past heard actor event) y v (manager_of setup payload (buffer_of setup payload y 1 past ∷ []) y (entry_of setup payload past heard actor event ∷ past))
       (lands (other y) (reply_of heard (told setup payload past event)) (posted setup payload past heard event) actor) refl st
 
   -- that what is posted may be sent
-  pub may-go : (v : Manager Kept) → StandsFor v (manager_of setup payload (buffer_of setup payload (acting_side event) 1 past ∷ []) (acting_side event) (entry_of setup payload past heard actor event ∷ past))
+  pub may-go : (v : Manager Kept) → Represents v (manager_of setup payload (buffer_of setup payload (acting_side event) 1 past ∷ []) (acting_side event) (entry_of setup payload past heard actor event ∷ past))
       → (posts : List Post) → posts ≡ posted setup payload past heard event → MaySendAll (length h.flows.items) v posts × (length (filter goes_on_wire posts) ≤ room_of (wire_at 1 h))
   may-go v st posts is =
       let own = before.own in (
@@ -53,9 +53,9 @@ module _ (setup : Setup) (payload : List ℕ) (past : List Entry) (heard : ℕ) 
       )
 
   -- the host that has sent what is posted
-  pub own-sent : (g : Host) → StandsFor g.core (manager_of setup payload (buffer_of setup payload (acting_side event) 1 past ∷ []) (acting_side event) (entry_of setup payload past heard actor event ∷ past))
+  pub own-sent : (g : Host) → Represents g.core (manager_of setup payload (buffer_of setup payload (acting_side event) 1 past ∷ []) (acting_side event) (entry_of setup payload past heard actor event ∷ past))
       → (posts : List Post) → posts ≡ posted setup payload past heard event → (number : ℕ) → number ≡ next_number past
-      → ((m : Manager Half) → StandsFor g.core m → (wire_at 1 g) ≡ with_posts (carried_from m number 1 posts) (wire_at 1 h)) → g.flows.items ≡ puts_all posts h.flows.items
+      → ((m : Manager Half) → Represents g.core m → (wire_at 1 g) ≡ with_posts (carried_from m number 1 posts) (wire_at 1 h)) → g.flows.items ≡ puts_all posts h.flows.items
       → IsHostAfter setup payload (acting_side event) (entry_of setup payload past heard actor event ∷ past) g
   own-sent g st posts is number n wire flows =
       let own = before.own in
@@ -65,13 +65,13 @@ module _ (setup : Setup) (payload : List ℕ) (past : List Entry) (heard : ℕ) 
       (wire_at 1 h) (sym (unmoved (acting_side event) (wire_at 1 h))) (wire m st ∙ ap (λ i. with_posts (carried_from m i 1 posts) (wire_at 1 h)) n) put.0 put.1
 
   -- the same where nothing is posted
-  pub own-kept : (g : Host) → StandsFor g.core (manager_of setup payload (buffer_of setup payload (acting_side event) 1 past ∷ []) (acting_side event) (entry_of setup payload past heard actor event ∷ past))
+  pub own-kept : (g : Host) → Represents g.core (manager_of setup payload (buffer_of setup payload (acting_side event) 1 past ∷ []) (acting_side event) (entry_of setup payload past heard actor event ∷ past))
       → posted setup payload past heard event ≡ [] → (wire_at 1 g) ≡ (wire_at 1 h) → g.flows.items ≡ h.flows.items
       → IsHostAfter setup payload (acting_side event) (entry_of setup payload past heard actor event ∷ past) g
   own-kept g st none wire flows = own-sent g st [] (sym none) (next_number past) refl (λ m s. wire ∙ sym (unposted (wire_at 1 h))) flows
 
   -- its peer
-  pub theirs-then : (l : Host) → StandsFor l.core (manager_of setup payload (buffer_of setup payload (other (acting_side event)) 1 past ∷ []) (other (acting_side event)) (entry_of setup payload past heard actor event ∷ past))
+  pub theirs-then : (l : Host) → Represents l.core (manager_of setup payload (buffer_of setup payload (other (acting_side event)) 1 past ∷ []) (other (acting_side event)) (entry_of setup payload past heard actor event ∷ past))
       → (wire_at 1 l) ≡ (wire_at 1 k) → length l.flows.items ≡ setup.sockets → Flowing payload setup.sockets (other (acting_side event)) (entry_of setup payload past heard actor event ∷ past) l.flows.items
       → IsHostAfter setup payload (other (acting_side event)) (entry_of setup payload past heard actor event ∷ past) l
   theirs-then l st wire sockets flows =
@@ -79,7 +79,7 @@ module _ (setup : Setup) (payload : List ℕ) (past : List Entry) (heard : ℕ) 
       (wire ∙ sym (unmoved (other (acting_side event)) (wire_at 1 k))) sockets flows
 
 -- a manager that stands for one of a history has the sockets of the setup
-pub stood : (setup : Setup) (payload : List ℕ) (regions : List Buffer) (x : Side) (past : List Entry) (v : Manager Kept) → StandsFor v (manager_of setup payload regions x past) → (s : ℕ) → s < setup.sockets → s < length v.hands
+pub stood : (setup : Setup) (payload : List ℕ) (regions : List Buffer) (x : Side) (past : List Entry) (v : Manager Kept) → Represents v (manager_of setup payload regions x past) → (s : ℕ) → s < setup.sockets → s < length v.hands
 stood setup payload regions x past v st s known = subst (λ n. s < n) (sym (ap length st.hands ∙ sockets-long (hand_of x past) setup.sockets)) known
 
 -- the entry of an event whose reply is known

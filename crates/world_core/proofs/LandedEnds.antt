@@ -6,7 +6,7 @@ use Rattle.smc_num.specs.Links.{Known}
 use Rattle.pipe_model.specs.Ends.{Half, lands}
 use Rattle.conn_end.specs.Kept.{Kept}
 use Rattle.side_core.specs.Records.{Connection, StandsAt, conn_at}
-use Rattle.side_core.specs.Manager.{Manager, StandsFor, IsTiedAt}
+use Rattle.side_core.specs.Manager.{Manager, Represents, IsTiedAt}
 use Rattle.world_core.specs.Managers.{changes_end}
 
 -- what a place finds after a change of one of them
@@ -31,7 +31,7 @@ still-tied : (known : List Known) (c : Option (Connection Half)) → IsTiedAt kn
 still-tied known None t = tt
 still-tied known (Some c) t = record { live = t.live }
 
-pub left-stands : (s : ℕ) (v : Manager Kept) (m : Manager Half) → StandsFor v m → StandsFor v (changes_end s lands m)
+pub left-stands : (s : ℕ) (v : Manager Kept) (m : Manager Half) → Represents v m → Represents v (changes_end s lands m)
 left-stands s v m st =
     let works = st.works in
     let records = works.records in

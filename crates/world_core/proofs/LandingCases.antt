@@ -16,14 +16,14 @@ use Rattle.pipe_model.specs.declared.post.Post.TheVariants.{Write, Cdc, Llc, Clc
 use Rattle.pipe_model.specs.declared.entry.Entry.{Entry}
 use Rattle.pipe_model.specs.Ends.{Half}
 use Rattle.pipe_model.specs.Wires.{landing, is_on}
-use Rattle.rc_link.specs.declared.Carried.{Carried}
+use Rattle.rc_link.specs.declared.InFlight.{InFlight}
 use Rattle.rc_link.specs.Wire.{Queues, placed, next_cdc, with_landed}
 use Rattle.conn_end.specs.Kept.{Kept}
 use Rattle.side_core.specs.Records.{aimer, conn_at}
 use Rattle.side_core.specs.Comings.{IsGoingAt}
 use Rattle.side_core.specs.Acting.{MayWrite, bytes_land}
 use Rattle.side_core.specs.Landing.{MayGoOut}
-use Rattle.side_core.specs.Manager.{Manager, StandsFor}
+use Rattle.side_core.specs.Manager.{Manager, Represents}
 use Rattle.world_core.specs.declared.host.Host.{Host}
 use Rattle.world_core.specs.declared.moment.Moment.{Moment}
 use Rattle.world_core.specs.OneLink.{the_link}
@@ -57,7 +57,7 @@ some-llc (Write from link key address len) e apart = true≢false (sym e)
 some-llc (Cdc from link m) e apart = true≢false (sym e)
 some-llc (Clc from s link m) e apart = true≢false (sym e)
 
-module _ (at : Moment) (x : Side) (c : Carried) (h k : Host) (landed : HasLanded at x c h k) (few : length at.history.now < 2 ^ 18) where
+module _ (at : Moment) (x : Side) (c : InFlight) (h k : Host) (landed : HasLanded at x c h k) (few : length at.history.now < 2 ^ 18) where
   abbrev First : Host
   First = landed.was
 
@@ -83,11 +83,11 @@ module _ (at : Moment) (x : Side) (c : Carried) (h k : Host) (landed : HasLanded
   left : IsLeft landed.was h
   left = record { wire = landed.wire ∙ ap (λ o. with_landed o (wire_at 1 landed.was)) (sym landed.first); core = landed.core; flows = landed.flows }
 
-  own-stands : StandsFor h.core (manager_of at.setup.now at.payload.now (buffer_of at.setup.now at.payload.now x 1 (past_of at) ∷ []) x (past_of at))
+  own-stands : Represents h.core (manager_of at.setup.now at.payload.now (buffer_of at.setup.now at.payload.now x 1 (past_of at) ∷ []) x (past_of at))
   own-stands =
       let hosts = landed.hosts in
       let own = hosts.own in
-      subst (λ (v : Manager Kept). StandsFor v (manager_of at.setup.now at.payload.now (buffer_of at.setup.now at.payload.now x 1 (past_of at) ∷ []) x (past_of at))) (sym landed.core) own.side
+      subst (λ (v : Manager Kept). Represents v (manager_of at.setup.now at.payload.now (buffer_of at.setup.now at.payload.now x 1 (past_of at) ∷ []) x (past_of at))) (sym landed.core) own.side
 
   -- no CLC message goes on a wire
   pub not-clc : (from : Side) (s : ℕ) (link : Option LinkId) (m : ClcMessage) → c.post ≡ Clc from s link m → ⊥
@@ -119,8 +119,8 @@ module _ (at : Moment) (x : Side) (c : Carried) (h k : Host) (landed : HasLanded
       e ∙ ap (λ y. Llc y link m) (sent-by x c next.there (Llc from link m) e)
 
   -- what waits behind it
-  behind : (rest : List Carried) → (wire_at 1 landed.was).waiting ≡ c ∷ rest → (wire_at 1 h).waiting ≡ rest
-  behind rest is = ap (λ (w : Queues). w.waiting) landed.wire ∙ ap (λ (cs : List Carried). drop 1 cs) is
+  behind : (rest : List InFlight) → (wire_at 1 landed.was).waiting ≡ c ∷ rest → (wire_at 1 h).waiting ≡ rest
+  behind rest is = ap (λ (w : Queues). w.waiting) landed.wire ∙ ap (λ (cs : List InFlight). drop 1 cs) is
 
   -- a write has landed
   module _ (link : LinkId) (key address len : ℕ) (is_write : c.post ≡ Write x link key address len) where
@@ -135,13 +135,13 @@ module _ (at : Moment) (x : Side) (c : Carried) (h k : Host) (landed : HasLanded
 
     pub record IsWriting : Type 0 where
       pub m : CdcMessage
-      pub next : next_cdc (map (λ (d : Carried). d.post) (wire_at 1 h).waiting) ≡ Some m
+      pub next : next_cdc (map (λ (d : InFlight). d.post) (wire_at 1 h).waiting) ≡ Some m
       pub goes : MayGoOut m.token address len h.core
       pub parts : (front back : List ℕ) → ((s : ℕ) (e : Half) (first : ℕ) → aimer m.token h.core.records ≡ Some s → IsGoingAt h.core.records.terms.size (conn_at s h.core.records) address len e first → front ++ back ≡ take len (drop first e.out))
           → MayWrite link key address (length front + length back) k.core
       pub lands : (front back : List ℕ) → ((s : ℕ) (e : Half) (first : ℕ) → aimer m.token h.core.records ≡ Some s → IsGoingAt h.core.records.terms.size (conn_at s h.core.records) address len e first → front ++ back ≡ take len (drop first e.out))
-          → (v : Manager Kept) → ((n : Manager Half) (rmb : ℕ) → StandsFor k.core n → rmb_bound key link n.desk.keys ≡ Some rmb → StandsFor v (bytes_land rmb address (front ++ back) n))
-          → (actor : ℕ) → StandsFor v (manager_of at.setup.now at.payload.now (buffer_of at.setup.now at.payload.now (other x) 1 (After actor ∷ Past) ∷ []) (other x) Past)
+          → (v : Manager Kept) → ((n : Manager Half) (rmb : ℕ) → Represents k.core n → rmb_bound key link n.desk.keys ≡ Some rmb → Represents v (bytes_land rmb address (front ++ back) n))
+          → (actor : ℕ) → Represents v (manager_of at.setup.now at.payload.now (buffer_of at.setup.now at.payload.now (other x) 1 (After actor ∷ Past) ∷ []) (other x) Past)
 
     is-writing : IsWriting
     is-writing =
@@ -155,27 +155,27 @@ module _ (at : Moment) (x : Side) (c : Carried) (h k : Host) (landed : HasLanded
         let told = write-told at.setup.now set.one at.payload.now Past at.heard hosts.played lendings OwnRegions x 0 (placed c) next-is x link key address len is_write in
         record {
           m = w.m;
-          next = ap (λ (cs : List Carried). next_cdc (map (λ (d : Carried). d.post) cs)) (behind next.rest next.carried_is) ∙ w.next;
+          next = ap (λ (cs : List InFlight). next_cdc (map (λ (d : InFlight). d.post) cs)) (behind next.rest next.carried_is) ∙ w.next;
           goes = w.goes;
           parts = λ front back out. w.writes_parts front back (out w.s _ w.at w.aimed w.going);
           lands = λ front back out v stands actor.
-              subst (λ (n : Manager Half). StandsFor v n)
+              subst (λ (n : Manager Half). Represents v n)
               (ap (λ bytes. bytes_land 1 address bytes (manager_of at.setup.now at.payload.now TheirRegions (other x) Past)) (out w.s _ w.at w.aimed w.going)
               ∙ w.lands (After actor) (one-lands at.setup.now at.payload.now Past at.heard x First k hosts (few-before at x First k hosts few) actor (placed c) next-is told))
               (stands (manager_of at.setup.now at.payload.now TheirRegions (other x) Past) 1 theirs.side w.bound);
         }
 
     -- the message that follows
-    named : (n : CdcMessage) → next_cdc (map (λ (d : Carried). d.post) (wire_at 1 h).waiting) ≡ Some n → is-writing.m ≡ n
+    named : (n : CdcMessage) → next_cdc (map (λ (d : InFlight). d.post) (wire_at 1 h).waiting) ≡ Some n → is-writing.m ≡ n
     named n e = let w = is-writing in some-is w.m n (sym w.next ∙ e)
 
-    pub some-follows : next_cdc (map (λ (d : Carried). d.post) (wire_at 1 h).waiting) ≡ None → ⊥
+    pub some-follows : next_cdc (map (λ (d : InFlight). d.post) (wire_at 1 h).waiting) ≡ None → ⊥
     some-follows e = let w = is-writing in let none : None ≡ Some w.m = sym e ∙ w.next in cc
 
-    pub may-go : (n : CdcMessage) → next_cdc (map (λ (d : Carried). d.post) (wire_at 1 h).waiting) ≡ Some n → MayGoOut n.token address len h.core
+    pub may-go : (n : CdcMessage) → next_cdc (map (λ (d : InFlight). d.post) (wire_at 1 h).waiting) ≡ Some n → MayGoOut n.token address len h.core
     may-go n e = let w = is-writing in subst (λ (q : CdcMessage). MayGoOut q.token address len h.core) (named n e) w.goes
 
-    module _ (n : CdcMessage) (e : next_cdc (map (λ (d : Carried). d.post) (wire_at 1 h).waiting) ≡ Some n) (front back : List ℕ)
+    module _ (n : CdcMessage) (e : next_cdc (map (λ (d : InFlight). d.post) (wire_at 1 h).waiting) ≡ Some n) (front back : List ℕ)
         (out : (s : ℕ) (e : Half) (first : ℕ) → aimer n.token h.core.records ≡ Some s → IsGoingAt h.core.records.terms.size (conn_at s h.core.records) address len e first → front ++ back ≡ take len (drop first e.out)) where
       out-of : (s : ℕ) (e : Half) (first : ℕ) → aimer (is-writing.m).token h.core.records ≡ Some s → IsGoingAt h.core.records.terms.size (conn_at s h.core.records) address len e first → front ++ back ≡ take len (drop first e.out)
       out-of s g first aimed going = out s g first (ap (λ (q : CdcMessage). aimer q.token h.core.records) (sym (named n e)) ∙ aimed) going
@@ -183,7 +183,7 @@ module _ (at : Moment) (x : Side) (c : Carried) (h k : Host) (landed : HasLanded
       pub may-write : MayWrite link key address (length front + length back) k.core
       may-write = let w = is-writing in w.parts front back out-of
 
-      pub write-lands : (v : Manager Kept) → ((n : Manager Half) (rmb : ℕ) → StandsFor k.core n → rmb_bound key link n.desk.keys ≡ Some rmb → StandsFor v (bytes_land rmb address (front ++ back) n))
+      pub write-lands : (v : Manager Kept) → ((n : Manager Half) (rmb : ℕ) → Represents k.core n → rmb_bound key link n.desk.keys ≡ Some rmb → Represents v (bytes_land rmb address (front ++ back) n))
           → IsPlayedBy at (Deliver 1 x) (Landed c.at) [] x h (record k { core = v })
       write-lands v stands =
           let hosts = landed.hosts in

@@ -20,13 +20,13 @@ use Rattle.pipe_model.specs.Wires.{landing}
 use Rattle.pipe_model.specs.Replies.{deliver_told}
 use Rattle.pipe_model.specs.Lawful.{posted}
 use Rattle.pipe_model.specs.Flows.{flow_step}
-use Rattle.rc_link.specs.declared.Carried.{Carried}
+use Rattle.rc_link.specs.declared.InFlight.{InFlight}
 use Rattle.rc_link.specs.Wire.{placed, with_landed, room_of}
 use Rattle.conn_end.specs.Kept.{Kept}
 use Rattle.side_core.specs.Records.{conn_at}
 use Rattle.side_core.specs.Acting.{IsSoundAt, MayConfirm, acts_at, confirms_link, confirming_posts, due_at}
 use Rattle.side_core.specs.Landing.{LandsIn, MayLandIn, dropped}
-use Rattle.side_core.specs.Manager.{Manager, StandsFor}
+use Rattle.side_core.specs.Manager.{Manager, Represents}
 use Rattle.world_core.specs.declared.host.Host.{Host}
 use Rattle.world_core.specs.declared.moment.Moment.{Moment}
 use Rattle.world_core.specs.OneLink.{the_link}
@@ -55,7 +55,7 @@ pub record IsTaking (at : Moment) (x : Side) (taken sent : Manager Half) (posts 
   pub sender : (actor : ℕ) → manager_of at.setup.now at.payload.now (buffer_of at.setup.now at.payload.now x 1 (past_of at) ∷ []) x (entry_of at.setup.now at.payload.now (past_of at) at.heard actor (Deliver 1 x) ∷ past_of at) ≡ sent
   pub posts_are : posted at.setup.now at.payload.now (past_of at) at.heard (Deliver 1 x) ≡ posts
 
-module _ (at : Moment) (x : Side) (c : Carried) (h k : Host) (landed : HasLanded at x c h k) (few : length at.history.now < 2 ^ 18) where
+module _ (at : Moment) (x : Side) (c : InFlight) (h k : Host) (landed : HasLanded at x c h k) (few : length at.history.now < 2 ^ 18) where
   abbrev First : Host
   First = landed.was
 
@@ -78,7 +78,7 @@ module _ (at : Moment) (x : Side) (c : Carried) (h k : Host) (landed : HasLanded
   abbrev pub Own : Manager Half
   Own = manager_of at.setup.now at.payload.now (buffer_of at.setup.now at.payload.now x 1 (past_of at) ∷ []) x (past_of at)
 
-  pub theirs-stand : StandsFor k.core Their
+  pub theirs-stand : Represents k.core Their
   theirs-stand = let hosts = landed.hosts in let theirs = hosts.theirs in theirs.side
 
   next-is : landing 1 x (past_of at) ≡ Some (placed c)
@@ -91,24 +91,24 @@ module _ (at : Moment) (x : Side) (c : Carried) (h k : Host) (landed : HasLanded
   left : IsLeft landed.was h
   left = record { wire = landed.wire ∙ ap (λ o. with_landed o (wire_at 1 landed.was)) (sym landed.first); core = landed.core; flows = landed.flows }
 
-  own-stands : StandsFor h.core Own
-  own-stands = let hosts = landed.hosts in let own = hosts.own in subst (λ (v : Manager Kept). StandsFor v Own) (sym landed.core) own.side
+  own-stands : Represents h.core Own
+  own-stands = let hosts = landed.hosts in let own = hosts.own in subst (λ (v : Manager Kept). Represents v Own) (sym landed.core) own.side
 
   -- the posts of the sender, of which this is the first
-  first-posts : (rest : List Carried) → (wire_at 1 landed.was).waiting ≡ c ∷ rest → (post : Post) → c.post ≡ post → waiting_posts x Past ≡ post ∷ map (λ (d : Carried). d.post) rest
+  first-posts : (rest : List InFlight) → (wire_at 1 landed.was).waiting ≡ c ∷ rest → (post : Post) → c.post ≡ post → waiting_posts x Past ≡ post ∷ map (λ (d : InFlight). d.post) rest
   first-posts rest is post e =
       let hosts = landed.hosts in
       let own = hosts.own in
-      wire-posts at.setup.now at.payload.now x Past (wire_at 1 landed.was) own.wire ∙ (ap (λ (cs : List Carried). map (λ (d : Carried). d.post) cs) is ∙ ap (λ p. p ∷ map (λ (d : Carried). d.post) rest) e)
+      wire-posts at.setup.now at.payload.now x Past (wire_at 1 landed.was) own.wire ∙ (ap (λ (cs : List InFlight). map (λ (d : InFlight). d.post) cs) is ∙ ap (λ p. p ∷ map (λ (d : InFlight). d.post) rest) e)
 
   -- the peer has taken it, and posts
   module _ (taken sent : Manager Half) (due : List Post) (t : IsTaking at x taken sent due) (told_now : Landed c.at ≡ deliver_told at.setup.now at.payload.now (other x) (past_of at) (landing 1 x (past_of at)))
-      (v : Manager Kept) (posts : List Post) (posts_are : posts ≡ due) (acted : StandsFor v taken) where
+      (v : Manager Kept) (posts : List Post) (posts_are : posts ≡ due) (acted : Represents v taken) where
     posts-now : posts ≡ posted at.setup.now at.payload.now (past_of at) at.heard (Deliver 1 x)
     posts-now = posts_are ∙ sym t.posts_are
 
-    stands-now : (actor : ℕ) → StandsFor v (Taker at.setup.now at.payload.now (past_of at) at.heard x landed.was k landed.hosts (few-before at x landed.was k landed.hosts few) actor)
-    stands-now actor = subst (λ (b : Buffer). StandsFor v (manager_of at.setup.now at.payload.now (b ∷ []) (other x) (After actor ∷ Past))) (sym (t.buffer actor)) (subst (λ (m : Manager Half). StandsFor v m) (sym (t.taker actor)) acted)
+    stands-now : (actor : ℕ) → Represents v (Taker at.setup.now at.payload.now (past_of at) at.heard x landed.was k landed.hosts (few-before at x landed.was k landed.hosts few) actor)
+    stands-now actor = subst (λ (b : Buffer). Represents v (manager_of at.setup.now at.payload.now (b ∷ []) (other x) (After actor ∷ Past))) (sym (t.buffer actor)) (subst (λ (m : Manager Half). Represents v m) (sym (t.taker actor)) acted)
 
     pub posts-may-go : MaySendAll (length k.flows.items) v posts
     posts-may-go = may-be-sent at x First k landed.hosts few v posts posts-now stands-now
@@ -116,7 +116,7 @@ module _ (at : Moment) (x : Side) (c : Carried) (h k : Host) (landed : HasLanded
     pub posts-fit : length (filter goes_on_wire posts) ≤ room_of (wire_at 1 k)
     posts-fit = has-room at x First k landed.hosts few v posts posts-now stands-now
 
-    pub message-lands : StandsFor h.core sent → (l : Host) (entry : ℕ) → entry ≡ length at.history.now + 1 → l.core ≡ v → ((n : Manager Half) → StandsFor v n → (wire_at 1 l) ≡ with_posts (carried_from n entry 1 posts) (wire_at 1 k))
+    pub message-lands : Represents h.core sent → (l : Host) (entry : ℕ) → entry ≡ length at.history.now + 1 → l.core ≡ v → ((n : Manager Half) → Represents v n → (wire_at 1 l) ≡ with_posts (carried_from n entry 1 posts) (wire_at 1 k))
         → l.flows.items ≡ puts_all posts k.flows.items → IsPlayedBy at (Deliver 1 x) (Landed c.at) posts x h l
     message-lands own_stands l entry number core_is wire_is flows_are =
         sent-landing at x First k landed.hosts few v posts posts-now stands-now h sent (Landed c.at) told_now left t.sender own_stands l entry number core_is wire_is flows_are
@@ -130,7 +130,7 @@ module _ (at : Moment) (x : Side) (c : Carried) (h k : Host) (landed : HasLanded
       pub lands_in : LandsIn s m c.plain sent k.core (manager_of at.setup.now at.payload.now (buffer_of at.setup.now at.payload.now (other x) 1 (past_of at) ∷ []) (other x) (past_of at))
       pub kept : dropped m.token k.core ≡ None
       pub told : Landed c.at ≡ deliver_told at.setup.now at.payload.now (other x) (past_of at) (landing 1 x (past_of at))
-      pub own_stands : StandsFor h.core (changes_end s lands (manager_of at.setup.now at.payload.now (buffer_of at.setup.now at.payload.now x 1 (past_of at) ∷ []) x (past_of at)))
+      pub own_stands : Represents h.core (changes_end s lands (manager_of at.setup.now at.payload.now (buffer_of at.setup.now at.payload.now x 1 (past_of at) ∷ []) x (past_of at)))
       pub taking : IsTaking at x (acts_at s (takes (Some sent)) (manager_of at.setup.now at.payload.now (buffer_of at.setup.now at.payload.now (other x) 1 (past_of at) ∷ []) (other x) (past_of at)))
           (changes_end s lands (manager_of at.setup.now at.payload.now (buffer_of at.setup.now at.payload.now x 1 (past_of at) ∷ []) x (past_of at)))
           (due_at s (takes (Some sent)) (manager_of at.setup.now at.payload.now (buffer_of at.setup.now at.payload.now (other x) 1 (past_of at) ∷ []) (other x) (past_of at)))
@@ -157,7 +157,7 @@ module _ (at : Moment) (x : Side) (c : Carried) (h k : Host) (landed : HasLanded
           own_stands = left-stands d.s h.core Own own-stands;
           taking = record {
             buffer = λ actor. buffer-stays-cdc at.setup.now at.payload.now x (After actor) Past (one-lands at.setup.now at.payload.now Past at.heard x First k hosts (few-before at x First k hosts few) actor (placed c) next-is told) x link m
-                (map (λ (d : Carried). d.post) next.rest) (first-posts next.rest next.carried_is (Cdc x link m) is_cdc);
+                (map (λ (d : InFlight). d.post) next.rest) (first-posts next.rest next.carried_is (Cdc x link m) is_cdc);
             taker = λ actor. let q = is TheirRegions actor in q.taker;
             sender = λ actor. let q = is OwnRegions actor in q.sender;
             posts_are = let q = is TheirRegions 0 in q.posts;
@@ -173,7 +173,7 @@ module _ (at : Moment) (x : Side) (c : Carried) (h k : Host) (landed : HasLanded
       pub may : (view : LinkView) → MayConfirm m view link k.core
       pub sound : IsSoundAt k.core.records.terms.size (conn_at k.core.desk.first k.core.records)
       pub told : Landed c.at ≡ deliver_told at.setup.now at.payload.now (other x) (past_of at) (landing 1 x (past_of at))
-      pub own_stands : StandsFor h.core (manager_of at.setup.now at.payload.now (buffer_of at.setup.now at.payload.now x 1 (past_of at) ∷ []) x (past_of at))
+      pub own_stands : Represents h.core (manager_of at.setup.now at.payload.now (buffer_of at.setup.now at.payload.now x 1 (past_of at) ∷ []) x (past_of at))
       pub taking : IsTaking at x (confirms_link (Live reply true) the_link (manager_of at.setup.now at.payload.now (buffer_of at.setup.now at.payload.now (other x) 1 (past_of at) ∷ []) (other x) (past_of at)))
           (manager_of at.setup.now at.payload.now (buffer_of at.setup.now at.payload.now x 1 (past_of at) ∷ []) x (past_of at))
           (confirming_posts (Live reply true) the_link (manager_of at.setup.now at.payload.now (buffer_of at.setup.now at.payload.now (other x) 1 (past_of at) ∷ []) (other x) (past_of at)))
@@ -200,7 +200,7 @@ module _ (at : Moment) (x : Side) (c : Carried) (h k : Host) (landed : HasLanded
           own_stands = own-stands;
           taking = record {
             buffer = λ actor. buffer-stays-llc at.setup.now at.payload.now x (After actor) Past (one-lands at.setup.now at.payload.now Past at.heard x First k hosts (few-before at x First k hosts few) actor (placed c) next-is told) x link m
-                (map (λ (d : Carried). d.post) next.rest) (first-posts next.rest next.carried_is (Llc x link m) is_llc);
+                (map (λ (d : InFlight). d.post) next.rest) (first-posts next.rest next.carried_is (Llc x link m) is_llc);
             taker = λ actor. let q = is TheirRegions actor in q.taker;
             sender = λ actor. let q = is OwnRegions actor in
                 subst (λ (y : Side). manager_of at.setup.now at.payload.now OwnRegions y (After actor ∷ Past) ≡ manager_of at.setup.now at.payload.now OwnRegions y Past) (sym (twice x)) q.theirs;

@@ -24,7 +24,7 @@ use Rattle.pipe_model.specs.Replies.{told, deliver_told}
 use Rattle.pipe_model.specs.Lawful.{posted}
 use Rattle.rc_link.specs.Wire.{Queues, landing as would_land, with_landed, room_of}
 use Rattle.conn_end.specs.Kept.{Kept}
-use Rattle.side_core.specs.Manager.{Manager, StandsFor}
+use Rattle.side_core.specs.Manager.{Manager, Represents}
 use Rattle.world_core.specs.declared.host.Host.{Host}
 use Rattle.world_core.specs.declared.host.Outflow.{Outflow}
 use Rattle.world_core.specs.declared.moment.Moment.{Moment}
@@ -107,7 +107,7 @@ module _ (setup : Setup) (payload : List ℕ) (past : List Entry) (heard : ℕ) 
       ∙ (ap (λ n. if_latest the_link past n) (one-on x c.at) ∙ ap (λ b. if b then 1 else 0) (latest-where x past c (only-of setup set.one payload past heard before.played) next))
 
   -- the sender's host, whose post has left its wire
-  sender-host : (g : Host) (m : Manager Half) → manager_of setup payload (buffer_of setup payload x 1 past ∷ []) x (Now ∷ past) ≡ m → StandsFor g.core m → (wire_at 1 g) ≡ moved x (Deliver 1 x) (wire_at 1 h) → g.flows.items ≡ h.flows.items
+  sender-host : (g : Host) (m : Manager Half) → manager_of setup payload (buffer_of setup payload x 1 past ∷ []) x (Now ∷ past) ≡ m → Represents g.core m → (wire_at 1 g) ≡ moved x (Deliver 1 x) (wire_at 1 h) → g.flows.items ≡ h.flows.items
       → IsHostAfter setup payload x (Now ∷ past) g
   sender-host g m is stands wire_is flows_are =
       let own = before.own in
@@ -119,7 +119,7 @@ module _ (setup : Setup) (payload : List ℕ) (past : List Entry) (heard : ℕ) 
       (their-flows setup set.one payload Now past Heard play x refl h.flows.items (λ s. refl) (λ s. refl) own.flows))
 
   -- the host of its peer, after it has sent what is posted
-  taker-host : (g : Host) → StandsFor g.core Taker → (wire_at 1 g) ≡ with_posts (carried_from Taker (next_number past) 1 (posted setup payload past heard (Deliver 1 x))) (wire_at 1 k) → g.flows.items ≡ puts_all (posted setup payload past heard (Deliver 1 x)) k.flows.items
+  taker-host : (g : Host) → Represents g.core Taker → (wire_at 1 g) ≡ with_posts (carried_from Taker (next_number past) 1 (posted setup payload past heard (Deliver 1 x))) (wire_at 1 k) → g.flows.items ≡ puts_all (posted setup payload past heard (Deliver 1 x)) k.flows.items
       → IsHostAfter setup payload (other x) (Now ∷ past) g
   taker-host g stands wire_is flows_are =
       let theirs = before.theirs in
@@ -127,8 +127,8 @@ module _ (setup : Setup) (payload : List ℕ) (past : List Entry) (heard : ℕ) 
       sent-after setup payload before.set past heard before.played (Deliver 1 x) refl actor k g theirs stands (buffer_of setup payload (other x) 1 (entry_of setup payload past heard actor (Deliver 1 x) ∷ past) ∷ []) Taker refl
       (posted setup payload past heard (Deliver 1 x)) refl (wire_at 1 k) (sym (deliver-else x 1 (wire_at 1 k))) wire_is flows.0 flows.1
 
-  pub both-hosts : (g l : Host) (m : Manager Half) → manager_of setup payload (buffer_of setup payload x 1 past ∷ []) x (Now ∷ past) ≡ m → StandsFor g.core m → (wire_at 1 g) ≡ moved x (Deliver 1 x) (wire_at 1 h) → g.flows.items ≡ h.flows.items
-      → StandsFor l.core Taker → (wire_at 1 l) ≡ with_posts (carried_from Taker (next_number past) 1 (posted setup payload past heard (Deliver 1 x))) (wire_at 1 k) → l.flows.items ≡ puts_all (posted setup payload past heard (Deliver 1 x)) k.flows.items
+  pub both-hosts : (g l : Host) (m : Manager Half) → manager_of setup payload (buffer_of setup payload x 1 past ∷ []) x (Now ∷ past) ≡ m → Represents g.core m → (wire_at 1 g) ≡ moved x (Deliver 1 x) (wire_at 1 h) → g.flows.items ≡ h.flows.items
+      → Represents l.core Taker → (wire_at 1 l) ≡ with_posts (carried_from Taker (next_number past) 1 (posted setup payload past heard (Deliver 1 x))) (wire_at 1 k) → l.flows.items ≡ puts_all (posted setup payload past heard (Deliver 1 x)) k.flows.items
       → AreHostsAfter setup payload (Now ∷ past) Heard x g l
   both-hosts g l m is stands wire_is flows_are takes taker_wire taker_flows =
       hosts-after setup payload before.set past heard before.played (Deliver 1 x) refl actor few x g l (sender-host g m is stands wire_is flows_are) (taker-host l takes taker_wire taker_flows)
@@ -160,14 +160,14 @@ module _ (at : Moment) (x : Side) (h k : Host) (hosts : AreHosts at x h k) (few 
   lent-now = let set = hosts.set in has-lendings S set.one P Past at.heard hosts.played
 
   -- its manager stands for what that of before did
-  own-stands : (g : Host) → IsLeft h g → {m : Manager Half} → StandsFor h.core m → StandsFor g.core m
-  own-stands g left {m} stands = subst (λ (v : Manager Kept). StandsFor v m) (sym left.core) stands
+  own-stands : (g : Host) → IsLeft h g → {m : Manager Half} → Represents h.core m → Represents g.core m
+  own-stands g left {m} stands = subst (λ (v : Manager Kept). Represents v m) (sym left.core) stands
 
   -- both hosts, by what becomes of the one that takes
   pub is-played : (g l : Host) (reply : Reply) (posts : List Post) (m : Manager Half) → reply ≡ deliver_told S P (other x) Past (landing 1 x Past) → posts ≡ Posts
-      → IsLeft h g → ((actor : ℕ) → manager_of S P OwnRegions x (After actor ∷ Past) ≡ m) → StandsFor g.core m
-      → ((actor : ℕ) → StandsFor l.core (Taker S P Past at.heard x h k hosts few-before actor))
-      → ((v : Manager Half) → StandsFor l.core v → (wire_at 1 l) ≡ with_posts (carried_from v (next_number Past) 1 Posts) (wire_at 1 k))
+      → IsLeft h g → ((actor : ℕ) → manager_of S P OwnRegions x (After actor ∷ Past) ≡ m) → Represents g.core m
+      → ((actor : ℕ) → Represents l.core (Taker S P Past at.heard x h k hosts few-before actor))
+      → ((v : Manager Half) → Represents l.core v → (wire_at 1 l) ≡ with_posts (carried_from v (next_number Past) 1 Posts) (wire_at 1 k))
       → l.flows.items ≡ puts_all Posts k.flows.items → IsPlayedBy at (Deliver 1 x) reply posts x g l
   is-played g l reply posts m reply_now posts_now left is stands takes taker_wire taker_flows = record {
     reply_is = reply_now;
@@ -184,13 +184,13 @@ module _ (at : Moment) (x : Side) (h k : Host) (hosts : AreHosts at x h k) (few 
   -- nothing is posted, by a host that has only taken bytes
   pub quiet-landing : (g : Host) (v : Manager Kept) (reply : Reply) (posts : List Post) → reply ≡ deliver_told S P (other x) Past (landing 1 x Past) → posts ≡ []
       → ((regions : List Buffer) (actor : ℕ) → IsNothing S P regions (After actor) Past) → IsLeft h g
-      → ((actor : ℕ) → StandsFor v (manager_of S P (buffer_of S P (other x) 1 (After actor ∷ Past) ∷ []) (other x) Past)) → IsPlayedBy at (Deliver 1 x) reply posts x g (record k { core = v })
+      → ((actor : ℕ) → Represents v (manager_of S P (buffer_of S P (other x) 1 (After actor ∷ Past) ∷ []) (other x) Past)) → IsPlayedBy at (Deliver 1 x) reply posts x g (record k { core = v })
   quiet-landing g v reply posts reply_now posts_now none left stands =
       let own = hosts.own in
       let first = none OwnRegions 0 in
       let empty : Posts ≡ [] = first.posts in
       is-played g (record k { core = v }) reply posts (manager_of S P OwnRegions x Past) reply_now (posts_now ∙ sym empty) left (λ actor. let q = none OwnRegions actor in q.kept x) (own-stands g left own.side)
-      (λ actor. let q = none (buffer_of S P (other x) 1 (After actor ∷ Past) ∷ []) actor in subst (λ (n : Manager Half). StandsFor v n) (sym (q.kept (other x))) (stands actor))
+      (λ actor. let q = none (buffer_of S P (other x) 1 (After actor ∷ Past) ∷ []) actor in subst (λ (n : Manager Half). Represents v n) (sym (q.kept (other x))) (stands actor))
       (λ n taken. unposted-wire empty n)
       (ap (λ (ps : List Post). puts_all ps k.flows.items) (sym empty))
 
@@ -203,12 +203,12 @@ module _ (at : Moment) (x : Side) (h k : Host) (hosts : AreHosts at x h k) (few 
       let nothing = no-landing S P x Past (wire_at 1 h) own.wire set.one at.heard hosts.played none in
       let is : Idle ≡ deliver_told S P (other x) Past (landing 1 x Past) = sym (ap (λ o. deliver_told S P (other x) Past o) nothing) in
       quiet-landing g k.core Idle posts is posts_now (λ regions actor. lands-nothing S set.one P Past at.heard hosts.played lent-now regions x actor nothing) left
-      (λ actor. subst (λ (b : Buffer). StandsFor k.core (manager_of S P (b ∷ []) (other x) Past))
+      (λ actor. subst (λ (b : Buffer). Represents k.core (manager_of S P (b ∷ []) (other x) Past))
       (sym (buffer-stays S P x (After actor) Past (ap (λ r. if_latest the_link Past (lands_on x 1 (Deliver 1 x) r)) (sym is) ∙ (ap (λ n. if_latest the_link Past n) (idle-on x) ∙ if-none Past)))) theirs.side)
 
   -- what the host of the peer posts
   module _ (v : Manager Kept) (posts : List Post) (posts_now : posts ≡ posted at.setup.now at.payload.now (past_of at) at.heard (Deliver 1 x))
-      (stands : (actor : ℕ) → StandsFor v (Taker at.setup.now at.payload.now (past_of at) at.heard x h k hosts few-before actor)) where
+      (stands : (actor : ℕ) → Represents v (Taker at.setup.now at.payload.now (past_of at) at.heard x h k hosts few-before actor)) where
     pub may-be-sent : MaySendAll (length k.flows.items) v posts
     may-be-sent =
         let theirs = hosts.theirs in
@@ -220,13 +220,13 @@ module _ (at : Moment) (x : Side) (h k : Host) (hosts : AreHosts at x h k) (few 
         subst (λ (w : Queues). length (filter goes_on_wire posts) ≤ room_of w) (deliver-else x 1 (wire_at 1 k)) (room-after S P hosts.set Past at.heard hosts.played (Deliver 1 x) refl 0 (wire_at 1 k) theirs.wire posts posts_now)
 
     pub sent-landing : (g : Host) (m : Manager Half) (reply : Reply) → reply ≡ deliver_told S P (other x) Past (landing 1 x Past) → IsLeft h g
-        → ((actor : ℕ) → manager_of S P OwnRegions x (After actor ∷ Past) ≡ m) → StandsFor g.core m → (l : Host) (entry : ℕ) → entry ≡ length at.history.now + 1 → l.core ≡ v
-        → ((n : Manager Half) → StandsFor v n → (wire_at 1 l) ≡ with_posts (carried_from n entry 1 posts) (wire_at 1 k)) → l.flows.items ≡ puts_all posts k.flows.items → IsPlayedBy at (Deliver 1 x) reply posts x g l
+        → ((actor : ℕ) → manager_of S P OwnRegions x (After actor ∷ Past) ≡ m) → Represents g.core m → (l : Host) (entry : ℕ) → entry ≡ length at.history.now + 1 → l.core ≡ v
+        → ((n : Manager Half) → Represents v n → (wire_at 1 l) ≡ with_posts (carried_from n entry 1 posts) (wire_at 1 k)) → l.flows.items ≡ puts_all posts k.flows.items → IsPlayedBy at (Deliver 1 x) reply posts x g l
     sent-landing g m reply reply_now left is own_stands l entry number core_is sent_is flows_are =
         let next : entry ≡ next_number Past = number ∙ ap (λ n. n + 1) (sym (length-reverse at.history.now)) in
         is-played g l reply posts m reply_now posts_now left is own_stands
-        (λ actor. subst (λ u. StandsFor u (Taker S P Past at.heard x h k hosts few-before actor)) (sym core_is) (stands actor))
+        (λ actor. subst (λ u. Represents u (Taker S P Past at.heard x h k hosts few-before actor)) (sym core_is) (stands actor))
         (λ n taken.
-        sent_is n (subst (λ u. StandsFor u n) core_is taken)
+        sent_is n (subst (λ u. Represents u n) core_is taken)
         ∙ (ap (λ i. with_posts (carried_from n i 1 posts) (wire_at 1 k)) next ∙ ap (λ (ps : List Post). with_posts (carried_from n (next_number Past) 1 ps) (wire_at 1 k)) posts_now))
         (flows_are ∙ ap (λ (ps : List Post). puts_all ps k.flows.items) posts_now)

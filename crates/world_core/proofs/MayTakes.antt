@@ -34,7 +34,7 @@ use Rattle.pipe_model.specs.Fallback.{untaken}
 use Rattle.pipe_model.specs.Fabric.{Fabric, fabric, made_on as made_in}
 use Rattle.side_core.specs.Desk.{Desk, made_on}
 use Rattle.side_core.specs.Records.{Connection, aimer, is_aimed_at}
-use Rattle.side_core.specs.Manager.{Manager, StandsFor, hand_at, state_at, no_hand}
+use Rattle.side_core.specs.Manager.{Manager, Represents, hand_at, state_at, no_hand}
 use Rattle.side_core.specs.Landing.{CanMake, is_wait}
 use Rattle.conn_end.specs.Kept.{Kept}
 use Rattle.world_core.specs.Hosts.{IsWorldSet}
@@ -270,18 +270,18 @@ module _ (setup : Setup) (one : IsOneLink setup) (payload : List ℕ) (regions :
         made-low m e = let few = made-few stage in omega (arith, e, few)
 
 -- a manager that stands for a plain one judges alike
-pub verdict-kept : (s : ℕ) (m : ClcMessage) (paths : List Bool) (v : Manager Kept) (plain : Manager Half) → StandsFor v plain → verdict_at s m paths v ≡ verdict_at s m paths plain
+pub verdict-kept : (s : ℕ) (m : ClcMessage) (paths : List Bool) (v : Manager Kept) (plain : Manager Half) → Represents v plain → verdict_at s m paths v ≡ verdict_at s m paths plain
 verdict-kept s m paths v plain stands =
     let w = stands.works in
     ap (λ (hands : List Hand). verdict (slice_index_or hands s no_hand).raw (slice_index_or hands s no_hand).state m (lacks_of paths v.desk)) stands.hands
     ∙ ap (λ (d : Desk). verdict (hand_at s plain).raw (state_at s plain) m (lacks_of paths d)) w.desk
 
-pub told-kept : (s : ℕ) (m : ClcMessage) (paths : List Bool) (v : Manager Kept) (plain : Manager Half) → StandsFor v plain → taking_told s m paths v ≡ taking_told s m paths plain
+pub told-kept : (s : ℕ) (m : ClcMessage) (paths : List Bool) (v : Manager Kept) (plain : Manager Half) → Represents v plain → taking_told s m paths v ≡ taking_told s m paths plain
 told-kept s m paths v plain stands = ap (λ st. step_told (named_group m) m st) (verdict-kept s m paths v plain stands)
 
 -- what a caller must see to
 pub may-take : (setup : Setup) (payload : List ℕ) (set : IsWorldSet setup payload) (past : List Entry) (n : ℕ) → IsPlayed setup payload past n → length past ≤ 2 ^ 18 → (regions : List Buffer) (dir : Side) (v : Manager Kept)
-    → StandsFor v (manager_of setup payload regions (other dir) past) → (s : ℕ) → s < setup.sockets → expects (end_state (other dir) s past) ≡ true → (m : ClcMessage) → head (untaken dir s past) ≡ Some m
+    → Represents v (manager_of setup payload regions (other dir) past) → (s : ℕ) → s < setup.sockets → expects (end_state (other dir) s past) ≡ true → (m : ClcMessage) → head (untaken dir s past) ≡ Some m
     → MayTake s m (link_of dir s past) (paths_of past) v
 may-take setup payload set past n p few regions dir v stands s known waits m first =
     let w = has-world setup set.one payload past n p in
@@ -295,7 +295,7 @@ pub record MayMake (dir : Side) (s : ℕ) (past : List Entry) (d : Desk) : Type 
 
 pub can-make : (setup : Setup) (one : IsOneLink setup) (payload : List ℕ) (regions : List Buffer) (past : List Entry) (n s : ℕ) (dir : Side) (e : Entry) → e.event ≡ Clc s dir → IsPlayed setup payload (e ∷ past) n
     → expects (end_state (other dir) s past) ≡ true → (m : ClcMessage) → head (untaken dir s past) ≡ Some m → e.reply ≡ Sent ConfirmSent
-    → (w : Manager Kept) → StandsFor w (manager_of setup payload regions (other (other dir)) past) → MayMake dir s past w.desk
+    → (w : Manager Kept) → Represents w (manager_of setup payload regions (other (other dir)) past) → MayMake dir s past w.desk
 can-make setup one payload regions past n s A e is p waits m first sent w stands =
     let t = taken-by-entry setup one payload regions past n s A e is p waits m first in
     let c = t.confirms sent in
@@ -344,14 +344,14 @@ module _ (setup : Setup) (one : IsOneLink setup) (payload : List ℕ) (regions :
   next-played = (heard, record { built = known; reply = refl; posts = refl }, refl, p)
 
   -- what a message would be told
-  pub would-be-told : expects (end_state (other dir) s past) ≡ true → (m : ClcMessage) → head (untaken dir s past) ≡ Some m → (v : Manager Kept) → StandsFor v (manager_of setup payload regions (other dir) past)
+  pub would-be-told : expects (end_state (other dir) s past) ≡ true → (m : ClcMessage) → head (untaken dir s past) ≡ Some m → (v : Manager Kept) → Represents v (manager_of setup payload regions (other dir) past)
       → clc_told setup payload s dir past ≡ taking_told s m (paths_of past) v
   would-be-told waits m first v stands =
       let t = taken setup one payload regions past (heard + handed (told_of_event setup payload past (Clc s dir))) s dir (entry_of setup payload past heard 0 (Clc s dir)) refl next-played waits m first in
       t.reply ∙ sym (told-kept s m (paths_of past) v (manager_of setup payload regions (other dir) past) stands)
 
   -- it does something unless it is held
-  pub would-take : expects (end_state (other dir) s past) ≡ true → (m : ClcMessage) → head (untaken dir s past) ≡ Some m → (v : Manager Kept) → StandsFor v (manager_of setup payload regions (other dir) past)
+  pub would-take : expects (end_state (other dir) s past) ≡ true → (m : ClcMessage) → head (untaken dir s past) ≡ Some m → (v : Manager Kept) → Represents v (manager_of setup payload regions (other dir) past)
       → does_something (told_of_event setup payload past (Clc s dir)) ≡ not (is_wait (verdict_at s m (paths_of past) v))
   would-take waits m first v stands =
       let plain : Manager Half = manager_of setup payload regions (other dir) past in

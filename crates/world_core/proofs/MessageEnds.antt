@@ -23,13 +23,13 @@ use Rattle.pipe_model.specs.Pipe.{half}
 use Rattle.pipe_model.specs.Connections.{is_up, end_state, part, group_on}
 use Rattle.pipe_model.specs.Lending.{lends_by, terms_of, pipe_of}
 use Rattle.pipe_model.proofs.Pipes.{lands-well, completes-well}
-use Rattle.rc_link.specs.declared.Carried.{Carried}
+use Rattle.rc_link.specs.declared.InFlight.{InFlight}
 use Rattle.rc_link.specs.Wire.{Queues, placed}
 use Rattle.conn_end.specs.Kept.{Kept}
 use Rattle.conn_end.specs.Arrivals.{IsSpelling, IsTakable, Completes}
 use Rattle.conn_end.proofs.Owners.{takable}
 use Rattle.side_core.specs.Records.{Connection, IsSized, conn_at, holder, aimer}
-use Rattle.side_core.specs.Manager.{Manager, StandsFor}
+use Rattle.side_core.specs.Manager.{Manager, Represents}
 use Rattle.side_core.specs.Acting.{IsSoundAt}
 use Rattle.side_core.specs.Comings.{Arrives, MayArriveAt, ArrivesAt, MayCompleteAt, CompletesAt}
 use Rattle.side_core.specs.Landing.{MayLandIn, LandsIn, MayCompleteIn, CompletesIn, dropped, dropped_by}
@@ -68,7 +68,7 @@ first-shot : (ms : List Sent) (r : Sent) → head ms ≡ Some r → head (shots 
 first-shot [] r e = absurd (true≢false (sym (ap (λ (q : Option Sent). is_some q) e)))
 first-shot (m ∷ ms) r e = ap (λ (q : Option Sent). option_map (λ (k : Sent). k.snapshot) q) e
 
-first-plain : (x : Side) (token : ℕ) (c : Carried) (rest cs : List Carried) (m : CdcMessage) (ms : List Sent) (r : Sent) → cs ≡ c ∷ rest → cdc_under x token c.post ≡ Some m → plains x token cs ≡ shots ms → head ms ≡ Some r → c.plain ≡ r.snapshot
+first-plain : (x : Side) (token : ℕ) (c : InFlight) (rest cs : List InFlight) (m : CdcMessage) (ms : List Sent) (r : Sent) → cs ≡ c ∷ rest → cdc_under x token c.post ≡ Some m → plains x token cs ≡ shots ms → head ms ≡ Some r → c.plain ≡ r.snapshot
 first-plain x token c rest cs m ms r e u p h =
     same c.plain r.snapshot
     (ap (λ (o : Option Snapshot). head (cons_option o (plains x token rest))) (sym (plain-some x token c m u))
@@ -156,7 +156,7 @@ module _ (setup : Setup) (payload : List ℕ) (set : IsWorldSet setup payload) (
 
   module _ (few : length past ≤ 2 ^ 18) (lendings_are : HasLendings setup payload past) (regions : List Buffer) where
     -- what completes at its sender
-    module _ (v : Manager Kept) (st : StandsFor v (manager_of setup payload regions x past)) where
+    module _ (v : Manager Kept) (st : Represents v (manager_of setup payload regions x past)) where
       pub record Completing (m : CdcMessage) (plain : Snapshot) (at : PostRef) : Type 0 where
         pub s : ℕ
         pub sent : Sent
@@ -167,7 +167,7 @@ module _ (setup : Setup) (payload : List ℕ) (set : IsWorldSet setup payload) (
         pub completes : CompletesIn s m plain sent v (manager_of setup payload regions x past)
         pub may : MayCompleteIn m plain v
 
-      completing-of : (c : Carried) (m : CdcMessage) (sp : Spelling setup payload x past m next_to_complete) → IsMessage x sp.s c.at past → c.plain ≡ (sp.sent).snapshot → head (to_complete (end_of setup payload x sp.s past)) ≡ Some sp.sent
+      completing-of : (c : InFlight) (m : CdcMessage) (sp : Spelling setup payload x past m next_to_complete) → IsMessage x sp.s c.at past → c.plain ≡ (sp.sent).snapshot → head (to_complete (end_of setup payload x sp.s past)) ≡ Some sp.sent
           → UpConn setup payload regions x past v st set.one n p lendings_are sp.s → HasPipe setup payload sp.s past → Completing m c.plain c.at
       completing-of c m sp message plain first u pipe = record {
         s = sp.s;
@@ -202,7 +202,7 @@ module _ (setup : Setup) (payload : List ℕ) (set : IsWorldSet setup payload) (
             oldest = λ b. completes-well (terms_of setup) x (part payload (group_on sp.s past) sp.s past) sp.sent can.feasible first b;
           }
 
-      pub completing : (w : Queues) → IsWireAfter setup payload x past w → (c : Carried) (rest : List Carried) (from : Side) (l : LinkId) (m : CdcMessage) → w.landed ≡ c ∷ rest → c.post ≡ Cdc from l m → Completing m c.plain c.at
+      pub completing : (w : Queues) → IsWireAfter setup payload x past w → (c : InFlight) (rest : List InFlight) (from : Side) (l : LinkId) (m : CdcMessage) → w.landed ≡ c ∷ rest → c.post ≡ Cdc from l m → Completing m c.plain c.at
       completing w wire c rest from l m q e = by (completes-spelled setup payload x past n p (shaken setup set.one payload past n p) (placed c) (map placed rest) from l m queue e)
         where
           queue : uncompleted the_link x past ≡ placed c ∷ map placed rest
@@ -223,7 +223,7 @@ module _ (setup : Setup) (payload : List ℕ) (set : IsWorldSet setup payload) (
               (has-pipe setup payload sp.s past n p (shaken setup set.one payload past n p))
 
     -- what lands at the peer
-    module _ (v : Manager Kept) (st : StandsFor v (manager_of setup payload regions (other x) past)) where
+    module _ (v : Manager Kept) (st : Represents v (manager_of setup payload regions (other x) past)) where
       pub record Landing (m : CdcMessage) (plain : Snapshot) (at : PostRef) : Type 0 where
         pub s : ℕ
         pub sent : Sent
@@ -234,7 +234,7 @@ module _ (setup : Setup) (payload : List ℕ) (set : IsWorldSet setup payload) (
         pub may : MayLandIn m plain v
         pub kept : dropped m.token v ≡ None
 
-      landing-of : (c : Carried) (m : CdcMessage) (sp : Spelling setup payload x past m next_to_land) → IsMessage x sp.s c.at past → c.plain ≡ (sp.sent).snapshot → keeps_element (end_state (other x) sp.s past) ≡ true
+      landing-of : (c : InFlight) (m : CdcMessage) (sp : Spelling setup payload x past m next_to_land) → IsMessage x sp.s c.at past → c.plain ≡ (sp.sent).snapshot → keeps_element (end_state (other x) sp.s past) ≡ true
           → KeptBeside (conn_at sp.s v.records) (plain_conn setup payload (other x) past sp.s (lends_by sp.s (sp.offer).link (sp.offer).offer)) → HasPipe setup payload sp.s past → Landing m c.plain c.at
       landing-of c m sp message plain keeps kept pipe = record {
         s = sp.s;
@@ -270,7 +270,7 @@ module _ (setup : Setup) (payload : List ℕ) (set : IsWorldSet setup payload) (
             going = pipe.not_over (other x);
           }
 
-      pub landing : (w : Queues) → IsWireAfter setup payload x past w → (c : Carried) (rest : List Carried) (from : Side) (l : LinkId) (m : CdcMessage) → w.waiting ≡ c ∷ rest → c.post ≡ Cdc from l m → Landing m c.plain c.at
+      pub landing : (w : Queues) → IsWireAfter setup payload x past w → (c : InFlight) (rest : List InFlight) (from : Side) (l : LinkId) (m : CdcMessage) → w.waiting ≡ c ∷ rest → c.post ≡ Cdc from l m → Landing m c.plain c.at
       landing w wire c rest from l m q e = by (lands-spelled setup payload x past n p (shaken setup set.one payload past n p) (placed c) (map placed rest) from l m queue e)
         where
           queue : unlanded the_link x past ≡ placed c ∷ map placed rest

@@ -13,7 +13,7 @@ use Rattle.pipe_model.specs.declared.entry.Entry.{Entry}
 use Rattle.pipe_model.specs.Words.{passes}
 use Rattle.pipe_model.specs.History.{post_at, sender, link_of_post}
 use Rattle.pipe_model.specs.Wires.{unlanded, uncompleted, landing, completing, completes_later, is_on}
-use Rattle.rc_link.specs.declared.Carried.{Carried}
+use Rattle.rc_link.specs.declared.InFlight.{InFlight}
 use Rattle.rc_link.specs.Wire.{Queues, placed, landing as would_land, completing as would_complete}
 use Rattle.world_core.specs.OneLink.{the_link}
 use Rattle.world_core.specs.Played.{IsOneLink, IsPlayed}
@@ -25,15 +25,15 @@ use Rattle.world_core.proofs.WireMoves.{lands-first, completes-first, same-landi
 use Rattle.world_core.proofs.Plain.{and-left, same-is}
 
 -- the first of a queue
-pub record IsFirst (c : Carried) (queue : List Carried) : Type 0 where
-  pub rest : List Carried
+pub record IsFirst (c : InFlight) (queue : List InFlight) : Type 0 where
+  pub rest : List InFlight
   pub is : queue ≡ c ∷ rest
 
-pub first-in : (c : Carried) (queue : List Carried) → head queue ≡ Some c → IsFirst c queue
+pub first-in : (c : InFlight) (queue : List InFlight) → head queue ≡ Some c → IsFirst c queue
 first-in c [] e = cc
 first-in c (d ∷ cs) e = record { rest = cs; is = ap (λ q. q ∷ cs) (some-is d c e) }
   where
-    some-is : (d c : Carried) → Some d ≡ Some c → d ≡ c
+    some-is : (d c : InFlight) → Some d ≡ Some c → d ≡ c
     some-is d c e = cc
 
 and-right : (a b : Bool) → (a && b) ≡ true → b ≡ true
@@ -41,7 +41,7 @@ and-right true b e = e
 and-right false b e = absurd (true≢false (sym e))
 
 -- a post that is on the wire of a side
-module _ (x : Side) (c : Carried) (there : is_on the_link x c.post ≡ true) where
+module _ (x : Side) (c : InFlight) (there : is_on the_link x c.post ≡ true) where
   pub sent-by : (post : Post) → c.post ≡ post → sender post ≡ x
   sent-by post e = sym (same-is x (sender post) (and-left (same_side x (sender post)) (passes (same_link the_link) (link_of_post post)) (ap (λ q. is_on the_link x q) (sym e) ∙ there)))
 
@@ -66,8 +66,8 @@ all-later link x (e ∷ past) =
     (placed-drop (λ c. completes_later c.post ≡ true) (completing_now link x e past) (uncompleted link x past) (all-later link x past)) (later-tested (take (landing_now link x e past) (unlanded link x past)))
 
 -- a post of a history that has left, or is about to leave, one of the queues of a wire
-pub record IsNextOn (x : Side) (c : Carried) (past : List Entry) (queue : List Placed) (carried : List Carried) : Type 0 where
-  pub rest : List Carried
+pub record IsNextOn (x : Side) (c : InFlight) (past : List Entry) (queue : List Placed) (carried : List InFlight) : Type 0 where
+  pub rest : List InFlight
   pub carried_is : carried ≡ c ∷ rest
   pub queue_is : queue ≡ placed c ∷ map placed rest
   pub there : is_on the_link x c.post ≡ true
@@ -75,23 +75,23 @@ pub record IsNextOn (x : Side) (c : Carried) (past : List Entry) (queue : List P
 
 module _ (setup : Setup) (payload : List ℕ) (x : Side) (past : List Entry) (w : Queues) (wire : IsWireAfter setup payload x past w) where
   pub no-landing : IsOneLink setup → (n : ℕ) → IsPlayed setup payload past n → would_land w ≡ None → landing 1 x past ≡ None
-  no-landing one n p none = sym (same-landing setup payload x past w wire one n p) ∙ ap (λ (o : Option Carried). option_map placed o) none
+  no-landing one n p none = sym (same-landing setup payload x past w wire one n p) ∙ ap (λ (o : Option InFlight). option_map placed o) none
 
   pub no-completing : IsOneLink setup → (n : ℕ) → IsPlayed setup payload past n → would_complete w ≡ None → completing 1 x past ≡ None
-  no-completing one n p none = sym (same-completing setup payload x past w wire one n p) ∙ ap (λ (o : Option Carried). option_map placed o) none
+  no-completing one n p none = sym (same-completing setup payload x past w wire one n p) ∙ ap (λ (o : Option InFlight). option_map placed o) none
 
-  module _ (c : Carried) where
+  module _ (c : InFlight) where
     pub landing-is : IsOneLink setup → (n : ℕ) → IsPlayed setup payload past n → would_land w ≡ Some c → landing 1 x past ≡ Some (placed c)
-    landing-is one n p first = sym (same-landing setup payload x past w wire one n p) ∙ ap (λ (o : Option Carried). option_map placed o) first
+    landing-is one n p first = sym (same-landing setup payload x past w wire one n p) ∙ ap (λ (o : Option InFlight). option_map placed o) first
 
     pub completing-is : IsOneLink setup → (n : ℕ) → IsPlayed setup payload past n → would_complete w ≡ Some c → completing 1 x past ≡ Some (placed c)
-    completing-is one n p first = sym (same-completing setup payload x past w wire one n p) ∙ ap (λ (o : Option Carried). option_map placed o) first
+    completing-is one n p first = sym (same-completing setup payload x past w wire one n p) ∙ ap (λ (o : Option InFlight). option_map placed o) first
 
-    next-on : (queue : List Placed) (carried : List Carried) → map placed carried ≡ queue → EachPlaced (λ d. is_on the_link x d.post ≡ true) queue
+    next-on : (queue : List Placed) (carried : List InFlight) → map placed carried ≡ queue → EachPlaced (λ d. is_on the_link x d.post ≡ true) queue
         → ((rest : List Placed) → queue ≡ placed c ∷ rest → post_at c.at past ≡ Some c.post) → head carried ≡ Some c → IsNextOn x c past queue carried
     next-on queue carried is each stands first =
         let f = first-in c carried first in
-        let q : queue ≡ placed c ∷ map placed f.rest = sym is ∙ ap (λ (cs : List Carried). map placed cs) f.is in
+        let q : queue ≡ placed c ∷ map placed f.rest = sym is ∙ ap (λ (cs : List InFlight). map placed cs) f.is in
         let t = subst (λ cs. EachPlaced (λ d. is_on the_link x d.post ≡ true) cs) q each in
         record { rest = f.rest; carried_is = f.is; queue_is = q; there = t.0; stands = stands (map placed f.rest) q }
 
@@ -99,7 +99,7 @@ module _ (setup : Setup) (payload : List ℕ) (x : Side) (past : List Entry) (w 
     pub completes-late : would_complete w ≡ Some c → completes_later c.post ≡ true
     completes-late first =
         let f = first-in c w.landed (sym (completes-first setup payload x past w wire) ∙ first) in
-        let t = subst (λ cs. EachPlaced (λ d. completes_later d.post ≡ true) cs) (sym wire.landed ∙ ap (λ (cs : List Carried). map placed cs) f.is) (all-later the_link x past) in
+        let t = subst (λ cs. EachPlaced (λ d. completes_later d.post ≡ true) cs) (sym wire.landed ∙ ap (λ (cs : List InFlight). map placed cs) f.is) (all-later the_link x past) in
         t.0
 
     pub next-lands : would_land w ≡ Some c → IsNextOn x c past (unlanded the_link x past) w.waiting

@@ -22,7 +22,7 @@ use Rattle.clc_handshake.specs.Stages.{first_state}
 use Rattle.rc_link.specs.Wire.{Queues}
 use Rattle.side_core.specs.Desk.{Desk}
 use Rattle.side_core.specs.Landing.{falls_at, opens_at, opening_posts}
-use Rattle.side_core.specs.Manager.{Manager, StandsFor, state_at}
+use Rattle.side_core.specs.Manager.{Manager, Represents, state_at}
 use Rattle.world_core.specs.declared.host.Host.{Host}
 use Rattle.world_core.specs.Played.{IsPlayed}
 use Rattle.world_core.specs.Landed.{buffer_of}
@@ -151,7 +151,7 @@ module _ (setup : Setup) (payload : List ℕ) (past : List Entry) (heard s : ℕ
       their-flows setup set.one payload (entry_of setup payload past heard actor (Open s)) past (heard + 0) (heard, record { built = known; reply = refl; posts = refl }, refl, before.played) B refl server.flows.items (λ t. refl) (λ t. refl) theirs.flows
 
   -- a host at a side, whose manager stands for that of the history with the entry
-  server-then : (actor : ℕ) (l : Host) → StandsFor l.core (manager_of setup payload (buffer_of setup payload B 1 past ∷ []) B (entry_of setup payload past heard actor (Open s) ∷ past))
+  server-then : (actor : ℕ) (l : Host) → Represents l.core (manager_of setup payload (buffer_of setup payload B 1 past ∷ []) B (entry_of setup payload past heard actor (Open s) ∷ past))
       → (wire_at 1 l) ≡ (wire_at 1 server) → l.flows.items ≡ server.flows.items → IsHostAfter setup payload B (entry_of setup payload past heard actor (Open s) ∷ past) l
   server-then actor l st wire flows =
       let theirs = before.theirs in
@@ -174,14 +174,14 @@ module _ (setup : Setup) (payload : List ℕ) (past : List Entry) (heard s : ℕ
             let of-a = nothing (buffer_of setup payload A 1 past ∷ []) actor in
             let of-b = nothing (buffer_of setup payload B 1 past ∷ []) actor in
             hosts-after setup payload before.set past heard before.played (Open s) known actor few A client server
-            (own-kept setup payload past heard (Open s) client server before few known lands-none unmoved-by silent-by actor client (subst (λ (m : Manager Half). StandsFor client.core m) (sym (of-a.kept A)) own.side) of-a.posts refl refl)
-            (server-then actor server (subst (λ (m : Manager Half). StandsFor server.core m) (sym (of-b.kept B)) theirs.side) refl refl);
+            (own-kept setup payload past heard (Open s) client server before few known lands-none unmoved-by silent-by actor client (subst (λ (m : Manager Half). Represents client.core m) (sym (of-a.kept A)) own.side) of-a.posts refl refl)
+            (server-then actor server (subst (λ (m : Manager Half). Represents server.core m) (sym (of-b.kept B)) theirs.side) refl refl);
       }
 
   -- a side is not capable
   pub fallen-back : has_end (state_at s client.core) ≡ false → (a-is && b-is) ≡ false → (posts : List Post) → posts ≡ [] → (g l : Host)
-      → ((m : Manager Half) → StandsFor client.core m → StandsFor g.core (falls_at s m)) → (wire_at 1 g) ≡ (wire_at 1 client) → g.flows.items ≡ client.flows.items
-      → ((m : Manager Half) → StandsFor server.core m → StandsFor l.core (falls_at s m)) → (wire_at 1 l) ≡ (wire_at 1 server) → l.flows.items ≡ server.flows.items
+      → ((m : Manager Half) → Represents client.core m → Represents g.core (falls_at s m)) → (wire_at 1 g) ≡ (wire_at 1 client) → g.flows.items ≡ client.flows.items
+      → ((m : Manager Half) → Represents server.core m → Represents l.core (falls_at s m)) → (wire_at 1 l) ≡ (wire_at 1 server) → l.flows.items ≡ server.flows.items
       → PlaysBy setup payload past heard (Open s) (Declined (NotCapable a-is b-is)) posts A g l
   fallen-back new lacks posts none g l falls wire flows falls-too wire-too flows-too =
       let told-is : open_told setup s past ≡ Declined (NotCapable a-is b-is) = told-new new false lacks in
@@ -196,8 +196,8 @@ module _ (setup : Setup) (payload : List ℕ) (past : List Entry) (heard s : ℕ
             let of-a = set-so (buffer_of setup payload A 1 past ∷ []) actor in
             let of-b = set-so (buffer_of setup payload B 1 past ∷ []) actor in
             hosts-after setup payload before.set past heard before.played (Open s) known actor few A g l
-            (own-kept setup payload past heard (Open s) client server before few known lands-none unmoved-by silent-by actor g (subst (λ (m : Manager Half). StandsFor g.core m) (sym (of-a.both A)) (falls _ own.side)) of-a.posts_are wire flows)
-            (server-then actor l (subst (λ (m : Manager Half). StandsFor l.core m) (sym (of-b.both B)) (falls-too _ theirs.side)) wire-too flows-too);
+            (own-kept setup payload past heard (Open s) client server before few known lands-none unmoved-by silent-by actor g (subst (λ (m : Manager Half). Represents g.core m) (sym (of-a.both A)) (falls _ own.side)) of-a.posts_are wire flows)
+            (server-then actor l (subst (λ (m : Manager Half). Represents l.core m) (sym (of-b.both B)) (falls-too _ theirs.side)) wire-too flows-too);
       }
 
   -- the posts of the client's opening
@@ -213,8 +213,8 @@ module _ (setup : Setup) (payload : List ℕ) (past : List Entry) (heard s : ℕ
 
   -- the handshake begins
   pub begun : has_end (state_at s client.core) ≡ false → (a-is && b-is) ≡ true → (posts : List Post) → posts ≡ (([] ++ opening_posts s client.core.desk) ++ opening_posts s server.core.desk) → (number : ℕ) → number ≡ next_number past → (v : Manager Kept) (g l : Host)
-      → ((m : Manager Half) → StandsFor client.core m → StandsFor v (opens_at s false m)) → g.core ≡ v → ((m : Manager Half) → StandsFor v m → (wire_at 1 g) ≡ with_posts (carried_from m number 1 posts) (wire_at 1 client)) → g.flows.items ≡ puts_all posts client.flows.items
-      → ((m : Manager Half) → StandsFor server.core m → StandsFor l.core (opens_at s false m)) → (wire_at 1 l) ≡ (wire_at 1 server) → l.flows.items ≡ server.flows.items
+      → ((m : Manager Half) → Represents client.core m → Represents v (opens_at s false m)) → g.core ≡ v → ((m : Manager Half) → Represents v m → (wire_at 1 g) ≡ with_posts (carried_from m number 1 posts) (wire_at 1 client)) → g.flows.items ≡ puts_all posts client.flows.items
+      → ((m : Manager Half) → Represents server.core m → Represents l.core (opens_at s false m)) → (wire_at 1 l) ≡ (wire_at 1 server) → l.flows.items ≡ server.flows.items
       → PlaysBy setup payload past heard (Open s) Opened posts A g l
   begun new able posts posts-are number n v g l opens core wire flows opens-too wire-too flows-too =
       let told-is : open_told setup s past ≡ Opened = told-new new true able in
@@ -230,9 +230,9 @@ module _ (setup : Setup) (payload : List ℕ) (past : List Entry) (heard s : ℕ
             let of-a = set-so (buffer_of setup payload A 1 past ∷ []) actor in
             let of-b = set-so (buffer_of setup payload B 1 past ∷ []) actor in
             hosts-after setup payload before.set past heard before.played (Open s) known actor few A g l
-            (own-sent setup payload past heard (Open s) client server before few known lands-none unmoved-by silent-by actor g (subst (λ (m : Manager Half). StandsFor g.core m) (sym (of-a.both A)) (subst (λ w. StandsFor w (opens_at s false (manager_of setup payload (buffer_of setup payload A 1 past ∷ []) A past))) (sym core) (opens _ own.side))) posts posts-so number n
-            (λ m st. wire m (subst (λ w. StandsFor w m) core st)) flows)
-            (server-then actor l (subst (λ (m : Manager Half). StandsFor l.core m) (sym (of-b.both B)) (opens-too _ theirs.side)) wire-too flows-too);
+            (own-sent setup payload past heard (Open s) client server before few known lands-none unmoved-by silent-by actor g (subst (λ (m : Manager Half). Represents g.core m) (sym (of-a.both A)) (subst (λ w. Represents w (opens_at s false (manager_of setup payload (buffer_of setup payload A 1 past ∷ []) A past))) (sym core) (opens _ own.side))) posts posts-so number n
+            (λ m st. wire m (subst (λ w. Represents w m) core st)) flows)
+            (server-then actor l (subst (λ (m : Manager Half). Represents l.core m) (sym (of-b.both B)) (opens-too _ theirs.side)) wire-too flows-too);
       }
 
 -- a test that fails where the one before it holds

@@ -24,11 +24,11 @@ use Rattle.pipe_model.specs.Pipe.{half, posts_of}
 use Rattle.pipe_model.specs.Connections.{is_up, items, part}
 use Rattle.pipe_model.specs.Lending.{terms_of, pipe_of}
 use Rattle.pipe_model.specs.Lawful.{draft}
-use Rattle.rc_link.specs.declared.Carried.{Carried}
+use Rattle.rc_link.specs.declared.InFlight.{InFlight}
 use Rattle.rc_link.specs.Wire.{Queues, placed, room_of}
 use Rattle.conn_end.specs.Kept.{Kept}
 use Rattle.side_core.specs.Records.{aimer}
-use Rattle.side_core.specs.Manager.{Manager, StandsFor}
+use Rattle.side_core.specs.Manager.{Manager, Represents}
 use Rattle.side_core.proofs.Managers.{aimers_same}
 use Rattle.world_core.specs.Played.{IsOneLink, IsPlayed}
 use Rattle.world_core.specs.OneLink.{the_link}
@@ -166,7 +166,7 @@ module _ (setup : Setup) (one : IsOneLink setup) (payload : List ℕ) (e : Entry
       abbrev N : Manager Half
       N = manager_of setup payload regions x (e ∷ past)
 
-      abbrev Cs : List Carried
+      abbrev Cs : List InFlight
       Cs = carried_from N (next_number past) 1 e.posts
 
       plain-by : (s : ℕ) (o : Offered) → offered (other x) s past ≡ Some o → (ms : List Sent) → Posts_of x s ≡ ms → length ms ≤ 1 → map (λ k. told_by N (next_number past) o.offer.token) (map (message (element_size setup) o.offer.token) ms) ≡ shots ms
@@ -189,7 +189,7 @@ module _ (setup : Setup) (one : IsOneLink setup) (payload : List ℕ) (e : Entry
       wire-own w wire = wire-with setup one payload e past n p x w wire Cs (carried-placed N (next_number past) setup.sockets x 1 e.posts from) plain-own
 
       -- the token of each CDC message names an end
-      pub each-aimed : (v : Manager Kept) → StandsFor v N → EachPost (IsAimed v) e.posts
+      pub each-aimed : (v : Manager Kept) → Represents v N → EachPost (IsAimed v) e.posts
       each-aimed v stands = each-posted setup one payload e past n p (IsAimed v) (λ y s l m k. tt) (λ y l m. tt) (λ y l k a len. tt) (λ q m t. aims q m t)
         where
           aims-at : (q : PostsOne setup payload (draft setup payload past p.0 e.event) past) (m : CdcMessage) → m.token ≡ (q.offer).offer.token → q.x ≡ x → aimer m.token (N).records ≡ Some q.s
@@ -204,7 +204,7 @@ module _ (setup : Setup) (one : IsOneLink setup) (payload : List ℕ) (e : Entry
               is-there (aimer m.token v.records) q.s (aimers_same m.token v.records (N).records works.records ∙ aims-at q m t (of-acting setup one payload e past n p q ∙ acts))
 
       -- each post may be sent
-      pub may-send : length (e ∷ past) ≤ 2 ^ 18 → IsWorldSet setup payload → (v : Manager Kept) → StandsFor v N → MaySendAll setup.sockets v e.posts
+      pub may-send : length (e ∷ past) ≤ 2 ^ 18 → IsWorldSet setup payload → (v : Manager Kept) → Represents v N → MaySendAll setup.sockets v e.posts
       may-send few worlds v stands =
           may-all setup.sockets x (e ∷ past) v e.posts (λ s m first. untaken-fits setup one payload (e ∷ past) n p few x (worlds.set x) x s m first) (each-aimed v stands) (clc-posted setup one payload e past n p x acts) from
 
@@ -215,7 +215,7 @@ module _ (setup : Setup) (one : IsOneLink setup) (payload : List ℕ) (e : Entry
       let a = posts-from setup one payload e past n p in
       let from : EachPost (IsSentBy setup.sockets x) e.posts = subst (λ y. EachPost (IsSentBy setup.sockets y) e.posts) acts a.from in
       let m : Manager Half = manager_of setup payload [] x past in
-      let cs : List Carried = carried_from m (next_number past) 1 e.posts in
+      let cs : List InFlight = carried_from m (next_number past) 1 e.posts in
       let c : CarriesAfter setup x e past cs v = wire-carries setup one payload e past n p x w wire cs (carried-placed m (next_number past) setup.sockets x 1 e.posts from) in
       let fits = fits-elements setup one payload x (e ∷ past) n p in
       let long : length cs ≡ length (filter goes_on_wire e.posts) = carried-long m (next_number past) 1 e.posts in

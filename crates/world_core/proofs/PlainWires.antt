@@ -13,39 +13,39 @@ use Rattle.pipe_model.specs.declared.post.Post.TheVariants.{Write, Cdc, Llc, Clc
 use Rattle.pipe_model.specs.Wires.{completes_later}
 use Rattle.pipe_model.specs.Ends.{Half, to_land}
 use Rattle.pipe_model.specs.Parts.{IsMarked}
-use Rattle.rc_link.specs.declared.Carried.{Carried}
+use Rattle.rc_link.specs.declared.InFlight.{InFlight}
 use Rattle.rc_link.specs.Wire.{landed_with}
 use Rattle.world_core.specs.Wired.{cdc_under, returning, HasGone}
 use Rattle.world_core.specs.Hosts.{plain_under, plains, shots}
 use Rattle.world_core.proofs.Carried.{Begins, begins, some-left, landing-grows, returning-same, landing-next, returning-next, returned-next}
 
 -- appended posts
-pub plains-append : (x : Side) (token : ℕ) (cs ds : List Carried) → plains x token (cs ++ ds) ≡ plains x token cs ++ plains x token ds
+pub plains-append : (x : Side) (token : ℕ) (cs ds : List InFlight) → plains x token (cs ++ ds) ≡ plains x token cs ++ plains x token ds
 plains-append x token cs ds = filter_map-append (plain_under x token) cs ds
 
 -- a post that is not the end's is none of its plain snapshots
-pub plain-none : (x : Side) (token : ℕ) (c : Carried) → cdc_under x token c.post ≡ None → plain_under x token c ≡ None
+pub plain-none : (x : Side) (token : ℕ) (c : InFlight) → cdc_under x token c.post ≡ None → plain_under x token c ≡ None
 plain-none x token c n = ap (λ (o : Option CdcMessage). option_map (λ m. c.plain) o) n
 
-pub plain-some : (x : Side) (token : ℕ) (c : Carried) (m : CdcMessage) → cdc_under x token c.post ≡ Some m → plain_under x token c ≡ Some c.plain
+pub plain-some : (x : Side) (token : ℕ) (c : InFlight) (m : CdcMessage) → cdc_under x token c.post ≡ Some m → plain_under x token c ≡ Some c.plain
 plain-some x token c m n = ap (λ (o : Option CdcMessage). option_map (λ k. c.plain) o) n
 
 -- a landed CDC message completes later
-later : (x : Side) (token : ℕ) (c : Carried) (m : CdcMessage) (post : Post) → cdc_under x token post ≡ Some m → (ls : List Carried) → (if completes_later post then ls ++ c ∷ [] else ls) ≡ ls ++ c ∷ []
+later : (x : Side) (token : ℕ) (c : InFlight) (m : CdcMessage) (post : Post) → cdc_under x token post ≡ Some m → (ls : List InFlight) → (if completes_later post then ls ++ c ∷ [] else ls) ≡ ls ++ c ∷ []
 later x token c m (Cdc from link k) n ls = refl
 later x token c m (Write from link key address len) n ls = refl
 later x token c m (Llc from link k) n ls = absurd (true≢false (sym (ap (λ o. is_some o) n)))
 later x token c m (Clc from s link k) n ls = refl
 
-pub landed-own : (x : Side) (token : ℕ) (c : Carried) (m : CdcMessage) → cdc_under x token c.post ≡ Some m → (ls : List Carried) → plains x token (landed_with c ls) ≡ plains x token ls ++ c.plain ∷ []
+pub landed-own : (x : Side) (token : ℕ) (c : InFlight) (m : CdcMessage) → cdc_under x token c.post ≡ Some m → (ls : List InFlight) → plains x token (landed_with c ls) ≡ plains x token ls ++ c.plain ∷ []
 landed-own x token c m n ls =
     ap (λ ks. plains x token ks) (later x token c m c.post n ls) ∙ plains-append x token ls (c ∷ []) ∙ ap (λ (o : Option Snapshot). plains x token ls ++ cons_option o []) (plain-some x token c m n)
 
-other-by : (x : Side) (token : ℕ) (c : Carried) (b : Bool) → cdc_under x token c.post ≡ None → (ls : List Carried) → plains x token (if b then ls ++ c ∷ [] else ls) ≡ plains x token ls
+other-by : (x : Side) (token : ℕ) (c : InFlight) (b : Bool) → cdc_under x token c.post ≡ None → (ls : List InFlight) → plains x token (if b then ls ++ c ∷ [] else ls) ≡ plains x token ls
 other-by x token c true n ls = plains-append x token ls (c ∷ []) ∙ ap (λ (o : Option Snapshot). plains x token ls ++ cons_option o []) (plain-none x token c n) ∙ append-nil (plains x token ls)
 other-by x token c false n ls = refl
 
-pub landed-other : (x : Side) (token : ℕ) (c : Carried) → cdc_under x token c.post ≡ None → (ls : List Carried) → plains x token (landed_with c ls) ≡ plains x token ls
+pub landed-other : (x : Side) (token : ℕ) (c : InFlight) → cdc_under x token c.post ≡ None → (ls : List InFlight) → plains x token (landed_with c ls) ≡ plains x token ls
 landed-other x token c n ls = other-by x token c (completes_later c.post) n ls
 
 -- an end before and after, with the snapshots on the wire before

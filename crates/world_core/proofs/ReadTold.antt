@@ -35,7 +35,7 @@ use Rattle.conn_end.specs.declared.answers.EndReply.{EndReply}
 use Rattle.conn_end.specs.declared.answers.EndReply.TheVariants.{Take, Wrote as TookBytes, Full as NoRoom, Empty as NoneYet, End as AtEnd, Ended as HasEnded, Done as WasDone, Reset as ByReset}
 use Rattle.side_core.specs.declared.route.Route.{Route}
 use Rattle.side_core.specs.Acting.{handed_from, handed_out}
-use Rattle.side_core.specs.Manager.{Manager, StandsFor, state_at}
+use Rattle.side_core.specs.Manager.{Manager, Represents, state_at}
 use Rattle.side_core.specs.Records.{Connection, half_at, route_at}
 use Rattle.world_core.specs.declared.host.Host.{Host}
 use Rattle.world_core.specs.OneLink.{the_link}
@@ -225,7 +225,7 @@ module _ (setup : Setup) (payload : List ℕ) (past : List Entry) (heard : ℕ) 
         ap (λ (k : Option (Connection Half)). unwrap_or (option_map (λ (c : Connection Half). c.end) k) (fresh setup.number)) c.plain_is
 
     -- what an answer of its manager says
-    pub answers-here : (n : ℕ) (answer : EndReply) → ((m : Manager Half) → StandsFor own.core m → Answers m.records.terms.size (Reads n) (half_at end.s m.records) answer) → Answers Size (Reads n) here answer
+    pub answers-here : (n : ℕ) (answer : EndReply) → ((m : Manager Half) → Represents own.core m → Answers m.records.terms.size (Reads n) (half_at end.s m.records) answer) → Answers Size (Reads n) here answer
     answers-here n answer says = let o = hosts.own in
         subst (λ (h : Half). Answers Size (Reads n) h answer) half-is (says (manager_of setup payload Regions end.side past) o.side)
 

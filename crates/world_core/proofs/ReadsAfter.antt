@@ -26,7 +26,7 @@ use Rattle.clc_handshake.specs.Stages.{seen_state}
 use Rattle.conn_end.specs.Told.{Answers}
 use Rattle.conn_end.specs.declared.answers.EndReply.{EndReply}
 use Rattle.side_core.specs.Acting.{acts_at, call_of, due_at, due_from}
-use Rattle.side_core.specs.Manager.{Manager, StandsFor, state_at}
+use Rattle.side_core.specs.Manager.{Manager, Represents, state_at}
 use Rattle.side_core.specs.Records.{Connection, conn_at, half_at}
 use Rattle.rc_link.specs.Wire.{room_of}
 use Rattle.world_core.specs.declared.host.Host.{Host}
@@ -192,19 +192,19 @@ module _ (at : Moment) (end : End) (len : ℕ) (own theirs : Host) (hosts : AreH
           room = subst (λ (ps : List Post). length (filter goes_on_wire ps) ≤ room_of (wire_at 1 own)) (sym q.due)
               (has-room at.setup.now at.payload.now Before at.heard Event_is own theirs hosts few-past socket is-read 0 end.s (Reads len) (called is-there 0));
           sent = λ v stands. subst (λ (ps : List Post). MaySendAll (length own.flows.items) v ps) (sym q.due)
-              (may-go at.setup.now at.payload.now Before at.heard Event_is own theirs hosts few-past socket is-read 0 end.s (Reads len) (called is-there 0) v (subst (λ (k : Manager Half). StandsFor v k) q.acts stands));
+              (may-go at.setup.now at.payload.now Before at.heard Event_is own theirs hosts few-past socket is-read 0 end.s (Reads len) (called is-there 0) v (subst (λ (k : Manager Half). Represents v k) q.acts stands));
         }
 
     pub read-up : (answer : EndReply) (before : ℕ) (mine : Host) (posts : List Post) → before ≡ at.heard
-        → ((m : Manager Half) → StandsFor own.core m → Answers m.records.terms.size (Reads len) (half_at end.s m.records) answer)
-        → ((m : Manager Half) → StandsFor own.core m → IsCalledAt end.s (Reads n) (length at.history.now + 1) m own mine posts)
+        → ((m : Manager Half) → Represents own.core m → Answers m.records.terms.size (Reads len) (half_at end.s m.records) answer)
+        → ((m : Manager Half) → Represents own.core m → IsCalledAt end.s (Reads n) (length at.history.now + 1) m own mine posts)
         → IsPlayedBy at Event_is (replied answer before) posts end.side mine theirs
     read-up answer before mine posts was says calls =
         let o = hosts.own in
         let q = same-call in
         let c = calls Plain_is o.side in
         let d : IsCalledAt end.s (Reads len) (length Before + 1) Plain_is own mine posts = record {
-          side = subst (λ (k : Manager Half). StandsFor mine.core k) q.acts c.side;
+          side = subst (λ (k : Manager Half). Represents mine.core k) q.acts c.side;
           posts_are = c.posts_are ∙ q.due;
           wire = c.wire ∙ (ap (λ (k : Manager Half). with_posts (carried_from k (length at.history.now + 1) 1 posts) (wire_at 1 own)) q.acts
               ∙ ap (λ i. with_posts (carried_from (acts_at end.s (call_of (Reads len) Plain_is) Plain_is) (i + 1) 1 posts) (wire_at 1 own)) (sym (length-reverse at.history.now)));

@@ -9,17 +9,17 @@ use Rattle.pipe_model.specs.declared.post.PostRef.{PostRef}
 use Rattle.pipe_model.specs.declared.snapshot.Snapshot.{Snapshot}
 use Rattle.pipe_model.specs.Ends.{Half}
 use Rattle.conn_end.specs.Kept.{Kept}
-use Rattle.rc_link.specs.declared.Carried.{Carried}
+use Rattle.rc_link.specs.declared.InFlight.{InFlight}
 use Rattle.rc_link.specs.Wire.{Queues, empty, room_of, with_post}
 use Rattle.side_core.specs.Records.{aimer, half_at}
-use Rattle.side_core.specs.Manager.{Manager, StandsFor}
+use Rattle.side_core.specs.Manager.{Manager, Represents}
 use Rattle.side_core.proofs.Managers.{aimers_same}
 use Rattle.world_core.specs.declared.host.Outflow.{Outflow}
 use Rattle.world_core.specs.Hosts.{with_posts}
 use Rattle.world_core.specs.Sending.{no_snapshot, plain_of, goes_on_wire, carried_from, posts_one, puts, puts_one, puts_all, outflow_at, wire_in, MaySendAll}
 
 -- the snapshot beside a CDC message whose token names an end
-pub plain_found : (core : Manager Kept) (m : Manager Half) (token : ℕ) (plain : Snapshot) → StandsFor core m → IsSome (aimer token core.records)
+pub plain_found : (core : Manager Kept) (m : Manager Half) (token : ℕ) (plain : Snapshot) → Represents core m → IsSome (aimer token core.records)
     → ((s : ℕ) → aimer token core.records ≡ Some s → plain ≡ (half_at s m.records).last)
     → plain ≡ unwrap_or (option_map (λ s. (half_at s m.records).last) (aimer token m.records)) no_snapshot
 plain_found core m token plain stands some is = by (aimer token core.records) refl some
@@ -44,13 +44,13 @@ carried-on slot ws now w one room is =
     by [] few = absurd (omega (arith, few))
     by (v ∷ vs) few = refl
 
-room_left : (c : Carried) (w : Queues) → room_of (with_post c w) ≡ room_of w - 1
+room_left : (c : InFlight) (w : Queues) → room_of (with_post c w) ≡ room_of w - 1
 room_left c w = let l = length-append w.waiting (c ∷ []) in omega (arith, l)
 
 -- a post goes on the wire of the one slot with the plain snapshot that stands beside it
 module _ (at : PostRef) (ws now : List Queues) (post : Post) (slot : ℕ) (plain : Snapshot) (one : slot ≡ 1) (room : 0 < room_of (wire_in slot ws)) (goes : goes_on_wire post ≡ true)
     (is : now ≡ slice_set ws (slot - 1) (with_post (record { at = at; post = post; plain = plain }) (wire_in slot ws))) where
-  abbrev Item : Carried
+  abbrev Item : InFlight
   Item = record { at = at; post = post; plain = plain }
 
   first : wire_in 1 now ≡ with_post (record { at = at; post = post; plain = plain }) (wire_in 1 ws)
@@ -70,7 +70,7 @@ pub place_is : (at : PostRef) (entry number : ℕ) → at.entry ≡ entry → at
 place_is at entry number e f = ap (λ n. record at { entry = n }) e ∙ ap (λ k. let p : PostRef = record { entry = entry; post = k } in p) f
 
 -- one more post, then more
-behind : (c : Carried) (cs : List Carried) (w : Queues) (b : Bool) → with_posts cs (if b then with_post c w else w) ≡ with_posts (if b then c ∷ cs else cs) w
+behind : (c : InFlight) (cs : List InFlight) (w : Queues) (b : Bool) → with_posts cs (if b then with_post c w else w) ≡ with_posts (if b then c ∷ cs else cs) w
 behind c cs w true = ap (λ xs. record w { waiting = xs }) (append_assoc w.waiting (c ∷ []) cs)
 behind c cs w false = refl
 
@@ -88,14 +88,14 @@ same_length (Llc from link message) flows = refl
 -- what is left of the posts of an entry, the first of them with this number, makes of what was sent so far what all make of what was
 -- there before
 pub record Sends (entry : ℕ) (core : Manager Kept) (all : List Post) (wire : Queues) (flows : List Outflow) (number : ℕ) (posts : List Post) (w : Queues) (fs : List Outflow) : Type 0 where
-  pub carried : (m : Manager Half) → StandsFor core m → with_posts (carried_from m entry number posts) w ≡ with_posts (carried_from m entry 1 all) wire
+  pub carried : (m : Manager Half) → Represents core m → with_posts (carried_from m entry number posts) w ≡ with_posts (carried_from m entry 1 all) wire
   pub streams : puts_all posts fs ≡ puts_all all flows
   pub may : MaySendAll (length fs) core posts
   pub room : length (filter goes_on_wire posts) ≤ room_of w
 
 pub sends_next : (entry : ℕ) (core : Manager Kept) (all : List Post) (wire : Queues) (flows : List Outflow) (number : ℕ) (post : Post) (posts : List Post) (w : Queues) (fs : List Outflow)
     → Sends entry core all wire flows number (post ∷ posts) w fs → (v : Queues) (gs : List Outflow)
-    → ((m : Manager Half) → StandsFor core m → v ≡ posts_one m (record { entry = entry; post = number }) post w) → gs ≡ puts_one post fs
+    → ((m : Manager Half) → Represents core m → v ≡ posts_one m (record { entry = entry; post = number }) post w) → gs ≡ puts_one post fs
     → room_of v ≡ room_of w - (if goes_on_wire post then 1 else 0) → Sends entry core all wire flows (number + 1) posts v gs
 sends_next entry core all wire flows number post posts w fs sends v gs is puts_is room = record {
   carried = λ m stands.
@@ -110,9 +110,9 @@ sends_next entry core all wire flows number post posts w fs sends v gs is puts_i
 -- the same by the number of the post in the entry
 pub sends_at : (entry : ℕ) (core : Manager Kept) (all : List Post) (wire : Queues) (flows : List Outflow) (i : ℕ) (d : Post) → i < length all → (w : Queues) (fs : List Outflow)
     → Sends entry core all wire flows (i + 1) (drop i all) w fs → (at : PostRef) → at.entry ≡ entry → at.post ≡ i + 1 → (now : Manager Kept) → now ≡ core → (v : Queues) (gs : List Outflow)
-    → ((m : Manager Half) → StandsFor now m → v ≡ posts_one m at (get_or all i d) w) → gs ≡ puts_one (get_or all i d) fs
+    → ((m : Manager Half) → Represents now m → v ≡ posts_one m at (get_or all i d) w) → gs ≡ puts_one (get_or all i d) fs
     → room_of v ≡ room_of w - (if goes_on_wire (get_or all i d) then 1 else 0) → Sends entry core all wire flows (i + 1 + 1) (drop (i + 1) all) v gs
 sends_at entry core all wire flows i d within w fs sends at e f now g v gs is puts_is room =
     sends_next entry core all wire flows (i + 1) (get_or all i d) (drop (i + 1) all) w fs
     (subst (λ ps. Sends entry core all wire flows (i + 1) ps w fs) (drop_more all i d within) sends) v gs
-    (λ m stands. is m (subst (λ c. StandsFor c m) (sym g) stands) ∙ ap (λ (r : PostRef). posts_one m r (get_or all i d) w) (place_is at entry (i + 1) e f)) puts_is room
+    (λ m stands. is m (subst (λ c. Represents c m) (sym g) stands) ∙ ap (λ (r : PostRef). posts_one m r (get_or all i d) w) (place_is at entry (i + 1) e f)) puts_is room

@@ -22,7 +22,7 @@ use Rattle.pipe_model.specs.Lending.{Lending, lent, terms_of, pipe_of}
 use Rattle.pipe_model.proofs.Pipes.{is-counted}
 use Rattle.conn_end.specs.Kept.{Kept}
 use Rattle.side_core.specs.Records.{Connection, Stands, StandsAt, conn_at}
-use Rattle.side_core.specs.Manager.{Manager, StandsFor}
+use Rattle.side_core.specs.Manager.{Manager, Represents}
 use Rattle.side_core.specs.Acting.{IsSound, IsSoundAt}
 use Rattle.side_core.specs.Setups.{IsSet}
 use Rattle.world_core.specs.OneLink.{Stage, NoLink, Begun, Made, Asking, LiveAtA, LiveAtBoth, fabric_at}
@@ -192,7 +192,7 @@ module _ (setup : Setup) (payload : List ℕ) (x : Side) (past : List Entry) whe
 
 module _ (setup : Setup) (payload : List ℕ) (set : IsWorldSet setup payload) (past : List Entry) (n : ℕ) (p : IsPlayed setup payload past n) (few : length past ≤ 2 ^ 18) where
   -- so each end that is kept is sound
-  pub sound-at : (x : Side) (regions : List Buffer) (v : Manager Kept) → StandsFor v (manager_of setup payload regions x past) → (s : ℕ) → IsSoundAt v.records.terms.size (conn_at s v.records)
+  pub sound-at : (x : Side) (regions : List Buffer) (v : Manager Kept) → Represents v (manager_of setup payload regions x past) → (s : ℕ) → IsSoundAt v.records.terms.size (conn_at s v.records)
   sound-at x regions v st s =
       let w = st.works in
       let r = w.records in

@@ -33,7 +33,7 @@ use Rattle.clc_handshake.specs.Stages.{seen_state, named_group}
 use Rattle.rc_link.specs.Wire.{Queues, room_of}
 use Rattle.side_core.specs.Desk.{Desk, lacks_of}
 use Rattle.side_core.specs.Landing.{is_wait, CanMake}
-use Rattle.side_core.specs.Manager.{Manager, StandsFor, hand_at, state_at}
+use Rattle.side_core.specs.Manager.{Manager, Represents, hand_at, state_at}
 use Rattle.side_core.specs.Acting.{IsSoundAt}
 use Rattle.side_core.specs.Records.{conn_at}
 use Rattle.side_core.specs.Taking.{MayTake, verdict_at, taking_told, taking_posts, takes_message, with_desk}
@@ -194,7 +194,7 @@ module _ (setup : Setup) (payload : List ℕ) (past : List Entry) (heard s : ℕ
   abbrev own-manager : Manager Half
   own-manager = manager_of setup payload (buffer_of setup payload (other dir) 1 past ∷ []) (other dir) past
 
-  own-stands : StandsFor own.core (manager_of setup payload (buffer_of setup payload (other dir) 1 past ∷ []) (other dir) past)
+  own-stands : Represents own.core (manager_of setup payload (buffer_of setup payload (other dir) 1 past ∷ []) (other dir) past)
   own-stands = let h = before.own in h.side
 
   -- the reply is what the manager is told
@@ -268,7 +268,7 @@ module _ (setup : Setup) (payload : List ℕ) (past : List Entry) (heard s : ℕ
         → IsHostAfter setup payload (other (other dir)) (entry_of setup payload past heard actor (Clc s dir) ∷ past) theirs
     theirs-kept actor none is =
         let h = before.theirs in
-        theirs-then setup payload past heard (Clc s dir) own theirs before few known lands-none unmoved-by silent-by actor theirs (subst (λ (m : Manager Half). StandsFor theirs.core m) (sym is) h.side) refl h.sockets (still-flows actor none)
+        theirs-then setup payload past heard (Clc s dir) own theirs before few known lands-none unmoved-by silent-by actor theirs (subst (λ (m : Manager Half). Represents theirs.core m) (sym is) h.side) refl h.sockets (still-flows actor none)
 
     -- no message is due
     pub nothing-due : due_on s own.core theirs.flows.items ≡ None → (posts : List Post) → posts ≡ [] → PlaysBy setup payload past heard (Clc s dir) Idle posts (other dir) own theirs
@@ -283,14 +283,14 @@ module _ (setup : Setup) (payload : List ℕ) (past : List Entry) (heard s : ℕ
               let of-own = so own-regions actor in
               let of-theirs = so (buffer_of setup payload (other (other dir)) 1 past ∷ []) actor in
               hosts-after setup payload before.set past heard before.played (Clc s dir) known actor few (other dir) own theirs
-              (own-kept setup payload past heard (Clc s dir) own theirs before few known lands-none unmoved-by silent-by actor own (subst (λ (m : Manager Half). StandsFor own.core m) (sym (of-own.both (other dir))) h.side) of-own.posts refl refl)
+              (own-kept setup payload past heard (Clc s dir) own theirs before few known lands-none unmoved-by silent-by actor own (subst (λ (m : Manager Half). Represents own.core m) (sym (of-own.both (other dir))) h.side) of-own.posts refl refl)
               (theirs-kept actor (ap (λ r. takes_it r) of-own.reply) (of-theirs.both (other (other dir))));
         }
 
     -- a message is due, and the manager has taken it
     module _ (u : Untaken) (due : due_on s own.core theirs.flows.items ≡ Some u) (r : Reply) (reply_is : r ≡ taking_told s u.message paths own.core) (v : Manager Kept)
-        (side : (m : Manager Half) → StandsFor own.core m → StandsFor v (takes_message s u.message (unwrap_or u.link no_link) paths m))
-        (first posts : List Post) (none : first ≡ []) (posts_are : (m : Manager Half) → StandsFor own.core m → posts ≡ first ++ taking_posts s u.message (unwrap_or u.link no_link) paths m) where
+        (side : (m : Manager Half) → Represents own.core m → Represents v (takes_message s u.message (unwrap_or u.link no_link) paths m))
+        (first posts : List Post) (none : first ≡ []) (posts_are : (m : Manager Half) → Represents own.core m → posts ≡ first ++ taking_posts s u.message (unwrap_or u.link no_link) paths m) where
       posts-so : posts ≡ posted setup payload past heard (Clc s dir)
       posts-so =
           let t = given-by own-regions 0 u due in
@@ -302,10 +302,10 @@ module _ (setup : Setup) (payload : List ℕ) (past : List Entry) (heard s : ℕ
       reply-so : r ≡ reply_of heard (told setup payload past (Clc s dir))
       reply-so = reply_is ∙ reply-now u due
 
-      stands-so : (actor : ℕ) → StandsFor v (manager_of setup payload (buffer_of setup payload (other dir) 1 past ∷ []) (other dir) (entry_of setup payload past heard actor (Clc s dir) ∷ past))
+      stands-so : (actor : ℕ) → Represents v (manager_of setup payload (buffer_of setup payload (other dir) 1 past ∷ []) (other dir) (entry_of setup payload past heard actor (Clc s dir) ∷ past))
       stands-so actor =
           let t = given-by own-regions actor u due in
-          subst (λ (m : Manager Half). StandsFor v m) (ap (λ (l : LinkId). takes_message s u.message l paths own-manager) (link-alike u due) ∙ (ap (λ paths. takes_message s u.message (link_of dir s past) paths own-manager) (sym up-now) ∙ sym t.own))
+          subst (λ (m : Manager Half). Represents v m) (ap (λ (l : LinkId). takes_message s u.message l paths own-manager) (link-alike u due) ∙ (ap (λ paths. takes_message s u.message (link_of dir s past) paths own-manager) (sym up-now) ∙ sym t.own))
           (side own-manager own-stands)
 
       pub may-send-now : MaySendAll (length own.flows.items) v posts × (length (filter goes_on_wire posts) ≤ room_of (wire_at 1 own))
@@ -329,7 +329,7 @@ module _ (setup : Setup) (payload : List ℕ) (past : List Entry) (heard s : ℕ
             posts_are = posts-so;
             after = λ actor.
                 hosts-after setup payload before.set past heard before.played (Clc s dir) known actor few (other dir) g theirs
-                (own-kept setup payload past heard (Clc s dir) own theirs before few known lands-none unmoved-by silent-by actor g (subst (λ w. StandsFor w (manager_of setup payload (buffer_of setup payload (other dir) 1 past ∷ []) (other dir) (entry_of setup payload past heard actor (Clc s dir) ∷ past))) (sym core) (stands-so actor)) none-posted wire flows)
+                (own-kept setup payload past heard (Clc s dir) own theirs before few known lands-none unmoved-by silent-by actor g (subst (λ w. Represents w (manager_of setup payload (buffer_of setup payload (other dir) 1 past ∷ []) (other dir) (entry_of setup payload past heard actor (Clc s dir) ∷ past))) (sym core) (stands-so actor)) none-posted wire flows)
                 (theirs-kept actor (ap (λ q. takes_it q) (sym reply-so ∙ is)) (theirs-so actor ∙ ap (λ q. link_with q (manager_of setup payload (buffer_of setup payload (other (other dir)) 1 past ∷ []) (other (other dir)) past)) is));
           }
 
@@ -365,8 +365,8 @@ module _ (setup : Setup) (payload : List ℕ) (past : List Entry) (heard s : ℕ
 
       -- it is taken
       pub taken-now : ((hold : Hold) → r ≡ Held hold → ⊥) → (verdict_at s u.message paths own.core ≡ AskKey → ⊥) → (number : ℕ) → number ≡ next_number past → (g l : Host) → g.core ≡ v
-          → ((m : Manager Half) → StandsFor v m → (wire_at 1 g) ≡ with_posts (carried_from m number 1 posts) (wire_at 1 own)) → g.flows.items ≡ puts_all posts own.flows.items
-          → ((m : Manager Half) → StandsFor theirs.core m → StandsFor l.core (with_desk (makes_at (link_made_by r u.link)) m)) → (wire_at 1 l) ≡ (wire_at 1 theirs) → l.flows.items ≡ hands_over s u.message theirs.flows.items
+          → ((m : Manager Half) → Represents v m → (wire_at 1 g) ≡ with_posts (carried_from m number 1 posts) (wire_at 1 own)) → g.flows.items ≡ puts_all posts own.flows.items
+          → ((m : Manager Half) → Represents theirs.core m → Represents l.core (with_desk (makes_at (link_made_by r u.link)) m)) → (wire_at 1 l) ≡ (wire_at 1 theirs) → l.flows.items ≡ hands_over s u.message theirs.flows.items
           → PlaysBy setup payload past heard (Clc s dir) r posts (other dir) g l
       taken-now not_held not_asked number n g l core wire flows side_too wire_too flows_too =
           let takes = taken-so not_held not_asked in
@@ -376,10 +376,10 @@ module _ (setup : Setup) (payload : List ℕ) (past : List Entry) (heard s : ℕ
             posts_are = posts-so;
             after = λ actor.
                 hosts-after setup payload before.set past heard before.played (Clc s dir) known actor few (other dir) g l
-                (own-sent setup payload past heard (Clc s dir) own theirs before few known lands-none unmoved-by silent-by actor g (subst (λ w. StandsFor w (manager_of setup payload (buffer_of setup payload (other dir) 1 past ∷ []) (other dir) (entry_of setup payload past heard actor (Clc s dir) ∷ past))) (sym core) (stands-so actor)) posts posts-so number n
-                (λ m st. wire m (subst (λ w. StandsFor w m) core st)) flows)
+                (own-sent setup payload past heard (Clc s dir) own theirs before few known lands-none unmoved-by silent-by actor g (subst (λ w. Represents w (manager_of setup payload (buffer_of setup payload (other dir) 1 past ∷ []) (other dir) (entry_of setup payload past heard actor (Clc s dir) ∷ past))) (sym core) (stands-so actor)) posts posts-so number n
+                (λ m st. wire m (subst (λ w. Represents w m) core st)) flows)
                 (theirs-then setup payload past heard (Clc s dir) own theirs before few known lands-none unmoved-by silent-by actor l
-                (subst (λ (m : Manager Half). StandsFor l.core m) (made-alike r u.link (manager_of setup payload (buffer_of setup payload (other (other dir)) 1 past ∷ []) (other (other dir)) past) link-there ∙ sym (theirs-so actor)) (side_too _ h.side))
+                (subst (λ (m : Manager Half). Represents l.core m) (made-alike r u.link (manager_of setup payload (buffer_of setup payload (other (other dir)) 1 past ∷ []) (other (other dir)) past) link-there ∙ sym (theirs-so actor)) (side_too _ h.side))
                 wire_too (ap length flows_too ∙ (length-set theirs.flows.items s (takes_next u.message (outflow_at s theirs.flows.items)) ∙ h.sockets))
                 (subst (λ fs. Flowing payload setup.sockets (other (other dir)) (entry_of setup payload past heard actor (Clc s dir) ∷ past) fs) (sym flows_too) (over-flows actor takes)));
           }

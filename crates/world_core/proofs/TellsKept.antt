@@ -13,7 +13,7 @@ use Rattle.pipe_model.specs.Wires.{unlanded, uncompleted}
 use Rattle.pipe_model.specs.Ends.{Half, to_land}
 use Rattle.pipe_model.specs.Pipe.{sent_since}
 use Rattle.pipe_model.specs.Parts.{IsMarked}
-use Rattle.rc_link.specs.declared.Carried.{Carried}
+use Rattle.rc_link.specs.declared.InFlight.{InFlight}
 use Rattle.rc_link.specs.Wire.{Queues, placed, landed_with}
 use Rattle.world_core.specs.Wired.{cdc_under, returning, HasGone}
 use Rattle.world_core.specs.WireSteps.{Stays, LandsNow, CompletesNow}
@@ -26,15 +26,15 @@ zero-one : {n : ℕ} → n ≡ 0 → n ≡ 1 → ⊥
 zero-one z o = let q : 0 ≡ 1 = sym z ∙ o in omega (arith, q)
 
 -- the first of a queue
-first-of : (c : Carried) (others ws : List Carried) (first : Placed) (rest : List Placed) → ws ≡ c ∷ others → map placed ws ≡ first ∷ rest → placed c ≡ first
+first-of : (c : InFlight) (others ws : List InFlight) (first : Placed) (rest : List Placed) → ws ≡ c ∷ others → map placed ws ≡ first ∷ rest → placed c ≡ first
 first-of c others ws first rest is e = ap (λ ps. unwrap_or (head ps) first) (sym (ap (λ ds. map placed ds) is) ∙ e)
 
-module _ (link : LinkId) (x : Side) (token : ℕ) (e : Entry) (past : List Entry) (h k : Half) (mark : IsMarked h) (cs : List Carried) (plain : plains x token cs ≡ shots (sent_since h k)) (w : Queues) (tells : TellsPlainly x token w h) where
+module _ (link : LinkId) (x : Side) (token : ℕ) (e : Entry) (past : List Entry) (h k : Half) (mark : IsMarked h) (cs : List InFlight) (plain : plains x token cs ≡ shots (sent_since h k)) (w : Queues) (tells : TellsPlainly x token w h) where
   posted : (l c : ℕ) (g : HasGone h k l c) → plains x token cs ≡ shots g.more
   posted l c g = plain ∙ ap (λ (ms : List Sent). shots ms) (since-more h k l c g)
 
   -- what waits, with what is posted
-  with-posted : (ws : List Carried) (l c : ℕ) (g : HasGone h k l c) → plains x token (ws ++ cs) ≡ plains x token ws ++ shots g.more
+  with-posted : (ws : List InFlight) (l c : ℕ) (g : HasGone h k l c) → plains x token (ws ++ cs) ≡ plains x token ws ++ shots g.more
   with-posted ws l c g = plains-append x token ws cs ∙ ap (λ ss. plains x token ws ++ ss) (posted l c g)
 
   still-waiting : (g : HasGone h k h.landed h.completed) → plains x token (w.waiting ++ cs) ≡ shots (to_land k)
@@ -52,7 +52,7 @@ module _ (link : LinkId) (x : Side) (token : ℕ) (e : Entry) (past : List Entry
   tells-stays s (Completes_own l m n g o) = absurd (zero-one s.completes l.completes)
 
   -- the first post lands
-  module _ (c : Carried) (others : List Carried) (is : w.waiting ≡ c ∷ others) (waiting : map placed w.waiting ≡ unlanded link x past) where
+  module _ (c : InFlight) (others : List InFlight) (is : w.waiting ≡ c ∷ others) (waiting : map placed w.waiting ≡ unlanded link x past) where
     abbrev landed_now : Queues
     landed_now = record w { waiting = others ++ cs; landed = landed_with c w.landed }
 
@@ -79,7 +79,7 @@ module _ (link : LinkId) (x : Side) (token : ℕ) (e : Entry) (past : List Entry
     tells-lands r (Completes_own l m n g o) = absurd (zero-one l.leaves r.leaves)
 
   -- the oldest landed post completes
-  module _ (c : Carried) (others : List Carried) (is : w.landed ≡ c ∷ others) (landed : map placed w.landed ≡ uncompleted link x past) where
+  module _ (c : InFlight) (others : List InFlight) (is : w.landed ≡ c ∷ others) (landed : map placed w.landed ≡ uncompleted link x past) where
     abbrev completed_now : Queues
     completed_now = record w { waiting = w.waiting ++ cs; landed = others }
 

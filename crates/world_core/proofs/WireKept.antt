@@ -9,7 +9,7 @@ use Rattle.pipe_model.specs.declared.entry.Entry.{Entry}
 use Rattle.pipe_model.specs.declared.post.Placed.{Placed}
 use Rattle.pipe_model.specs.History.{next_number, numbered}
 use Rattle.pipe_model.specs.Wires.{is_on, unlanded, uncompleted, completes_later}
-use Rattle.rc_link.specs.declared.Carried.{Carried}
+use Rattle.rc_link.specs.declared.InFlight.{InFlight}
 use Rattle.rc_link.specs.Wire.{Queues, placed, landed_with}
 use Rattle.world_core.specs.WireSteps.{Stays, LandsNow, CompletesNow, landing_now, completing_now}
 use Rattle.world_core.proofs.Carrying.{drop-none, take-none}
@@ -19,14 +19,14 @@ abbrev news : LinkId → Side → Entry → List Entry → List Placed
 news link x e past = filter (λ c. is_on link x c.post) (numbered (next_number past) 1 e.posts)
 
 -- a queue that stands for placed posts begins with one that stands for the first
-pub record Fronts (first : Placed) (rest : List Placed) (cs : List Carried) : Type 0 where
-  pub c : Carried
-  pub others : List Carried
+pub record Fronts (first : Placed) (rest : List Placed) (cs : List InFlight) : Type 0 where
+  pub c : InFlight
+  pub others : List InFlight
   pub is : cs ≡ c ∷ others
   pub first_is : placed c ≡ first
   pub rest_is : map placed others ≡ rest
 
-pub fronts : (first : Placed) (rest : List Placed) (cs : List Carried) → map placed cs ≡ first ∷ rest → Fronts first rest cs
+pub fronts : (first : Placed) (rest : List Placed) (cs : List InFlight) → map placed cs ≡ first ∷ rest → Fronts first rest cs
 fronts first rest [] e = absurd (true≢false (sym (ap (λ ps. is_some (head ps)) e)))
 fronts first rest (c ∷ cs) e = record { c = c; others = cs; is = refl; first_is = ap (λ ps. or-else (head ps)) e; rest_is = ap (λ ps. drop 1 ps) e }
   where
@@ -35,7 +35,7 @@ fronts first rest (c ∷ cs) e = record { c = c; others = cs; is = refl; first_i
     or-else (Some p) = p
 
 -- a post that lands goes over, or is done with
-later-by : (b : Bool) (c : Carried) (ls : List Carried) → map placed (if b then ls ++ c ∷ [] else ls) ≡ map placed ls ++ (if b then placed c ∷ [] else [])
+later-by : (b : Bool) (c : InFlight) (ls : List InFlight) → map placed (if b then ls ++ c ∷ [] else ls) ≡ map placed ls ++ (if b then placed c ∷ [] else [])
 later-by true c ls = map-append placed ls (c ∷ [])
 later-by false c ls = sym (append-nil (map placed ls))
 
@@ -43,7 +43,7 @@ kept-one : (b : Bool) (p : Placed) → (if b then p ∷ [] else []) ≡ (if b th
 kept-one true p = refl
 kept-one false p = refl
 
-module _ (link : LinkId) (x : Side) (e : Entry) (past : List Entry) (cs : List Carried) (are : map placed cs ≡ news link x e past) where
+module _ (link : LinkId) (x : Side) (e : Entry) (past : List Entry) (cs : List InFlight) (are : map placed cs ≡ news link x e past) where
   -- the wire as it was
   module _ (w : Queues) (waiting : map placed w.waiting ≡ unlanded link x past) (landed : map placed w.landed ≡ uncompleted link x past) where
     pub stays-waiting : Stays link x e past → map placed (w.waiting ++ cs) ≡ unlanded link x (e ∷ past)

@@ -20,7 +20,7 @@ use Rattle.pipe_model.specs.Wires.{is_cut, some_reported, unlanded, uncompleted,
 use Rattle.pipe_model.specs.Lending.{record_of}
 use Rattle.pipe_model.specs.Replies.{told, lands_told, deliver_told}
 use Rattle.pipe_model.specs.Lawful.{reply_of}
-use Rattle.rc_link.specs.declared.Carried.{Carried}
+use Rattle.rc_link.specs.declared.InFlight.{InFlight}
 use Rattle.rc_link.specs.Wire.{Queues, placed, landing as next_landing, completing as next_completing, with_landed, with_completed}
 use Rattle.pipe_model.specs.Fits.{Fits}
 use Rattle.world_core.specs.Played.{IsOneLink, IsMade, IsPlayed}
@@ -36,21 +36,21 @@ use Rattle.world_core.proofs.Unmade.{idle-link}
 use Rattle.world_core.proofs.Plain.{or-right}
 
 -- the first of what a wire carries
-head-placed : (cs : List Carried) → option_map placed (head cs) ≡ head (map placed cs)
+head-placed : (cs : List InFlight) → option_map placed (head cs) ≡ head (map placed cs)
 head-placed [] = refl
 head-placed (c ∷ cs) = refl
 
-if-none : (a b c : Bool) (q : Option Carried) → a ≡ false → b ≡ false → c ≡ false → (if a || (b || c) then None else q) ≡ q
+if-none : (a b c : Bool) (q : Option InFlight) → a ≡ false → b ≡ false → c ≡ false → (if a || (b || c) then None else q) ≡ q
 if-none false false false q d e f = refl
 if-none true b c q d e f = absurd (true≢false d)
 if-none false true c q d e f = absurd (true≢false e)
 if-none false false true q d e f = absurd (true≢false f)
 
-none-placed : (q : Option Carried) → option_map placed q ≡ None → q ≡ None
+none-placed : (q : Option InFlight) → option_map placed q ≡ None → q ≡ None
 none-placed None e = refl
 none-placed (Some c) e = absurd (true≢false (ap (λ (o : Option Placed). is_some o) e))
 
-some-placed : (q : Option Carried) → is_some (option_map placed q) ≡ is_some q
+some-placed : (q : Option InFlight) → is_some (option_map placed q) ≡ is_some q
 some-placed None = refl
 some-placed (Some c) = refl
 

@@ -20,7 +20,7 @@ use Rattle.pipe_model.specs.Parts.{IsMarked}
 use Rattle.pipe_model.specs.Connections.{items, part}
 use Rattle.pipe_model.specs.Lending.{terms_of}
 use Rattle.pipe_model.proofs.Pipes.{is-marked}
-use Rattle.rc_link.specs.declared.Carried.{Carried}
+use Rattle.rc_link.specs.declared.InFlight.{InFlight}
 use Rattle.rc_link.specs.Wire.{Queues, placed, empty, with_landed, with_completed, landed_with}
 use Rattle.world_core.specs.Played.{IsOneLink, IsMade, IsPlayed}
 use Rattle.world_core.specs.OneLink.{the_link}
@@ -41,7 +41,7 @@ use Rattle.world_core.proofs.PostsFrom.{IsSentBy, posts-from}
 use Rattle.world_core.proofs.Plain.{apart-sides, some-is}
 
 -- where no CDC message is under a token, no plain snapshot is
-none-plain : (x : Side) (token : ℕ) (ws : List Carried) → cdcs x token (map placed ws) ≡ [] → plains x token ws ≡ []
+none-plain : (x : Side) (token : ℕ) (ws : List InFlight) → cdcs x token (map placed ws) ≡ [] → plains x token ws ≡ []
 none-plain x token [] e = refl
 none-plain x token (c ∷ ws) e = by (cdc_under x token c.post) e (λ f. none-plain x token ws f)
   where
@@ -80,7 +80,7 @@ none-mapped f [] e = refl
 none-mapped f (x ∷ xs) e = absurd (true≢false (ap (λ ys. is_some (head ys)) e))
 
 -- what a wire carries with posts, the plain snapshots apart
-pub record CarriesAfter (setup : Setup) (x : Side) (e : Entry) (past : List Entry) (cs : List Carried) (v : Queues) : Type 0 where
+pub record CarriesAfter (setup : Setup) (x : Side) (e : Entry) (past : List Entry) (cs : List InFlight) (v : Queues) : Type 0 where
   pub places : v.places ≡ places_of setup x
   pub waiting : map placed (v.waiting ++ cs) ≡ unlanded the_link x (e ∷ past)
   pub landed : map placed v.landed ≡ uncompleted the_link x (e ∷ past)
@@ -135,7 +135,7 @@ module _ (setup : Setup) (one : IsOneLink setup) (payload : List ℕ) (e : Entry
       by (Completes_own l m k g r) = so _ _ g
 
   -- the posts of a wire, with those of the entry
-  module _ (x : Side) (w : Queues) (wire : IsWireAfter setup payload x past w) (cs : List Carried) (are : map placed cs ≡ filter (λ c. is_on the_link x c.post) (numbered (next_number past) 1 e.posts)) where
+  module _ (x : Side) (w : Queues) (wire : IsWireAfter setup payload x past w) (cs : List InFlight) (are : map placed cs ≡ filter (λ c. is_on the_link x c.post) (numbered (next_number past) 1 e.posts)) where
     carries-by : Moving x e past w → CarriesAfter setup x e past cs (moved x e.event w)
     carries-by (Moves_none s m) = subst (λ v. CarriesAfter setup x e past cs v) (sym m)
         (record { places = wire.places; waiting = stays-waiting the_link x e past cs are w wire.waiting wire.landed s; landed = stays-landed the_link x e past cs are w wire.waiting wire.landed s })
@@ -151,7 +151,7 @@ module _ (setup : Setup) (one : IsOneLink setup) (payload : List ℕ) (e : Entry
     pub wire-carries : CarriesAfter setup x e past cs (moved x e.event w)
     wire-carries = carries-by (moving setup one payload past p.0 p.3 p.0 e made x w wire)
 
-  module _ (x : Side) (w : Queues) (wire : IsWireAfter setup payload x past w) (cs : List Carried) (are : map placed cs ≡ filter (λ c. is_on the_link x c.post) (numbered (next_number past) 1 e.posts))
+  module _ (x : Side) (w : Queues) (wire : IsWireAfter setup payload x past w) (cs : List InFlight) (are : map placed cs ≡ filter (λ c. is_on the_link x c.post) (numbered (next_number past) 1 e.posts))
       (plain : (s : ℕ) (o : Offered) → offered (other x) s past ≡ Some o → plains x o.offer.token cs ≡ shots (Posts_of x s)) where
     abbrev Tells : Queues → Type 0
     Tells v = (s : ℕ) (o : Offered) → offered (other x) s past ≡ Some o → TellsPlainly x o.offer.token v (Then x s)
@@ -179,7 +179,7 @@ module _ (setup : Setup) (one : IsOneLink setup) (payload : List ℕ) (e : Entry
             subst (λ (k : Offered). TellsPlainly x k.offer.token v (Then x s)) (some-is r o (sym (go.kept (other x) s r g) ∙ f)) (tells s r g)
 
     -- a wire with other posts keeps its places and reports
-    with-other : (ws ls : List Carried) → map placed ws ≡ unlanded the_link x (e ∷ past) → map placed ls ≡ uncompleted the_link x (e ∷ past) → Tells (record w { waiting = ws; landed = ls })
+    with-other : (ws ls : List InFlight) → map placed ws ≡ unlanded the_link x (e ∷ past) → map placed ls ≡ uncompleted the_link x (e ∷ past) → Tells (record w { waiting = ws; landed = ls })
         → IsWireAfter setup payload x (e ∷ past) (record w { waiting = ws; landed = ls })
     with-other ws ls waiting landed tells = record {
       places = wire.places;

@@ -30,11 +30,11 @@ use Rattle.pipe_model.specs.Keys.{Keys, keys_of}
 use Rattle.pipe_model.specs.Home.{following_cdc}
 use Rattle.pipe_model.specs.Posts.{offered_place}
 use Rattle.pipe_model.proofs.Pipes.{is-counted}
-use Rattle.rc_link.specs.declared.Carried.{Carried}
+use Rattle.rc_link.specs.declared.InFlight.{InFlight}
 use Rattle.rc_link.specs.Wire.{Queues, placed, next_cdc}
-use Rattle.conn_end.specs.Kept.{Kept, StandsFor as EndStandsFor}
+use Rattle.conn_end.specs.Kept.{Kept, Represents as EndRepresents}
 use Rattle.side_core.specs.Records.{conn_at, aimer}
-use Rattle.side_core.specs.Manager.{Manager, StandsFor}
+use Rattle.side_core.specs.Manager.{Manager, Represents}
 use Rattle.side_core.specs.Desk.{Desk}
 use Rattle.side_core.specs.Acting.{MayWrite, bytes_land, buffer_of as buffer_among}
 use Rattle.side_core.specs.Comings.{IsGoing, IsGoingTo, IsGoingAt}
@@ -120,10 +120,10 @@ module _ (setup : Setup) (payload : List ℕ) (x : Side) (e : Entry) (past : Lis
   buffer-stays-llc l from link m rest w = buffer-first l (Llc from link m ∷ rest) w
 
 -- the posts on a wire are those of the history
-pub wire-posts : (setup : Setup) (payload : List ℕ) (x : Side) (past : List Entry) (w : Queues) → IsWireAfter setup payload x past w → waiting_posts x past ≡ map (λ (d : Carried). d.post) w.waiting
+pub wire-posts : (setup : Setup) (payload : List ℕ) (x : Side) (past : List Entry) (w : Queues) → IsWireAfter setup payload x past w → waiting_posts x past ≡ map (λ (d : InFlight). d.post) w.waiting
 wire-posts setup payload x past w wire = ap (λ cs. map (λ (c : Placed). c.post) cs) (sym wire.waiting) ∙ posts-of w.waiting
   where
-    posts-of : (cs : List Carried) → map (λ (c : Placed). c.post) (map placed cs) ≡ map (λ (d : Carried). d.post) cs
+    posts-of : (cs : List InFlight) → map (λ (c : Placed). c.post) (map placed cs) ≡ map (λ (d : InFlight). d.post) cs
     posts-of [] = refl
     posts-of (c ∷ cs) = ap (λ ps. c.post ∷ ps) (posts-of cs)
 
@@ -229,7 +229,7 @@ module _ (setup : Setup) (payload : List ℕ) (set : IsWorldSet setup payload) (
           absurd (own-next x Rest m own next (ap (λ ps. filter_map (cdc_under x m.token) ps) (sym w) ∙ none))
 
   module _ (lendings_are : HasLendings setup payload past) (regions : List Buffer)
-      (u : Manager Kept) (sends : StandsFor u (manager_of setup payload regions x past)) (v : Manager Kept) (takes : StandsFor v (manager_of setup payload (buffer_of setup payload (other x) 1 past ∷ []) (other x) past)) where
+      (u : Manager Kept) (sends : Represents u (manager_of setup payload regions x past)) (v : Manager Kept) (takes : Represents v (manager_of setup payload (buffer_of setup payload (other x) 1 past ∷ []) (other x) past)) where
     -- the bytes of a write, from a place in the stream of its end
     abbrev bytes_from : ℕ → ℕ → ℕ → List ℕ
     bytes_from s at len = take len (drop at (half_of setup payload x s past).out)
@@ -289,9 +289,9 @@ module _ (setup : Setup) (payload : List ℕ) (set : IsWorldSet setup payload) (
         peer : conn.kept.kept.route.peer ≡ Some ow.o.offer
         peer = let k = conn.kept in let st = k.stands in ap (λ r. r.peer) st.route ∙ (conn.peer ∙ ap (λ (o : Offer). Some o) offer_is)
 
-        stands : EndStandsFor conn.kept.kept.end H
+        stands : EndRepresents conn.kept.kept.end H
         stands = let k = conn.kept in let st = k.stands in
-            subst (λ g. EndStandsFor k.kept.end (half x (pipe_of setup payload g ow.s past))) (grouped setup past (has-offers setup set.one payload past n p) (other x) ow.s ow.o ow.offered_is) st.end
+            subst (λ g. EndRepresents k.kept.end (half x (pipe_of setup payload g ow.s past))) (grouped setup past (has-offers setup set.one payload past n p) (other x) ow.s ow.o ow.offered_is) st.end
 
         size_is : u.records.terms.size ≡ Size
         size_is = let w = sends.works in let r = w.records in ap (λ t. t.size) r.terms
@@ -346,13 +346,13 @@ module _ (setup : Setup) (payload : List ℕ) (set : IsWorldSet setup payload) (
             ∙ (ap (λ b. if b then lands address (bytes_of (half x (pipe_of setup payload 1 ow.s past)) len Rest) Buf else Buf) (eq-eqb (offered_place ow.o.offer).rmb Buf.rmb same-rmb) ∙ ap (λ bs. lands address bs Buf) ow.bytes)))
 
     -- a write at the front of a wire
-    pub writing : (w : Queues) → IsWireAfter setup payload x past w → (c : Carried) (rest : List Carried) (from : Side) (link : LinkId) (key address len : ℕ) → w.waiting ≡ c ∷ rest → c.post ≡ Write from link key address len
-        → Writing link key address len (map (λ (d : Carried). d.post) rest)
+    pub writing : (w : Queues) → IsWireAfter setup payload x past w → (c : InFlight) (rest : List InFlight) (from : Side) (link : LinkId) (key address len : ℕ) → w.waiting ≡ c ∷ rest → c.post ≡ Write from link key address len
+        → Writing link key address len (map (λ (d : InFlight). d.post) rest)
     writing w wire c rest from link key address len q e =
         let queue : unlanded the_link x past ≡ placed c ∷ map placed rest = sym wire.waiting ∙ ap (λ cs. map placed cs) q in
         subst (λ ps. Writing link key address len ps) (posts-of rest)
         (writing-by (placed c) (map placed rest) from link key address len queue e (owned (placed c) (map placed rest) from link key address len queue e))
       where
-        posts-of : (cs : List Carried) → map (λ (c : Placed). c.post) (map placed cs) ≡ map (λ (d : Carried). d.post) cs
+        posts-of : (cs : List InFlight) → map (λ (c : Placed). c.post) (map placed cs) ≡ map (λ (d : InFlight). d.post) cs
         posts-of [] = refl
         posts-of (c ∷ cs) = ap (λ ps. c.post ∷ ps) (posts-of cs)

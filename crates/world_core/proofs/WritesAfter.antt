@@ -27,7 +27,7 @@ use Rattle.pipe_model.specs.Lawful.{reply_of}
 use Rattle.clc_handshake.specs.declared.stage.EndState.TheVariants.{Absent, Up, FellBack}
 use Rattle.clc_handshake.specs.Stages.{seen_state}
 use Rattle.side_core.specs.Landing.{told_at as told_by_end}
-use Rattle.side_core.specs.Manager.{Manager, StandsFor, state_at}
+use Rattle.side_core.specs.Manager.{Manager, Represents, state_at}
 use Rattle.side_core.specs.Records.{Connection, half_at}
 use Rattle.world_core.specs.declared.host.Host.{Host}
 use Rattle.world_core.specs.declared.host.Outflow.{Outflow}
@@ -161,8 +161,8 @@ module _ (at : Moment) (end : End) (place len : ℕ) (own theirs : Host) (hosts 
       ap (λ (k : Option (Connection Half)). unwrap_or (option_map (λ (c : Connection Half). c.end) k) (fresh at.setup.now.number)) c.plain_is
 
   pub write-up : (result : Reply) (mine : Host) (posts : List Post) → seen_state (state_at end.s own.core) ≡ Up
-      → ((m : Manager Half) → StandsFor own.core m → Plain result ≡ told_by_end end.s (Writes Taken_in) [] m)
-      → ((m : Manager Half) → StandsFor own.core m → IsCalledAt end.s (Writes Taken_in) (length at.history.now + 1) m own mine posts)
+      → ((m : Manager Half) → Represents own.core m → Plain result ≡ told_by_end end.s (Writes Taken_in) [] m)
+      → ((m : Manager Half) → Represents own.core m → IsCalledAt end.s (Writes Taken_in) (length at.history.now + 1) m own mine posts)
       → IsPlayedBy at Told_by result posts end.side mine theirs
   write-up result mine posts seen tells calls =
       let o = hosts.own in

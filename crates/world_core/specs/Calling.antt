@@ -12,7 +12,7 @@ use Rattle.conn_end.specs.declared.answers.EndReply.TheVariants.{Take, Wrote as 
 use Rattle.pipe_model.specs.declared.reply.Reply.{Reply}
 use Rattle.pipe_model.specs.declared.reply.Reply.TheVariants.{Wrote, Bytes, Full, Empty, End, Ended, Done, Reset}
 use Rattle.side_core.specs.Records.{conn_at}
-use Rattle.side_core.specs.Manager.{Manager, StandsFor, state_at}
+use Rattle.side_core.specs.Manager.{Manager, Represents, state_at}
 use Rattle.side_core.specs.Acting.{IsSoundAt, acts_at, call_of, due_at}
 use Rattle.world_core.specs.declared.host.Host.{Host}
 use Rattle.world_core.specs.declared.host.Outflow.{Outflow}
@@ -25,13 +25,13 @@ pub record MayCall (s : ℕ) (call : Call) (h : Host) : Type 0 where
   pub up : state_at s h.core ≡ IsUp
   pub sound : IsSoundAt h.core.records.terms.size (conn_at s h.core.records)
   pub plain : Manager Half
-  pub stands : StandsFor h.core plain
+  pub stands : Represents h.core plain
   pub room : length (filter goes_on_wire (due_at s (call_of call plain) plain)) ≤ room_of (wire_at 1 h)
-  pub sent : (v : Manager Kept) → StandsFor v (acts_at s (call_of call plain) plain) → MaySendAll (length h.flows.items) v (due_at s (call_of call plain) plain)
+  pub sent : (v : Manager Kept) → Represents v (acts_at s (call_of call plain) plain) → MaySendAll (length h.flows.items) v (due_at s (call_of call plain) plain)
 
 -- what a call does to the host: the end acts, and what is due to it then is sent
 pub record IsCalledAt (s : ℕ) (call : Call) (entry : ℕ) (m : Manager Half) (before now : Host) (posts : List Post) : Type 0 where
-  pub side : StandsFor now.core (acts_at s (call_of call m) m)
+  pub side : Represents now.core (acts_at s (call_of call m) m)
   pub posts_are : posts ≡ due_at s (call_of call m) m
   pub wire : (wire_at 1 now) ≡ with_posts (carried_from (acts_at s (call_of call m) m) entry 1 posts) (wire_at 1 before)
   pub flows : now.flows.items ≡ puts_all posts before.flows.items

@@ -16,10 +16,10 @@ use Rattle.pipe_model.specs.Ends.{Half, to_land}
 use Rattle.pipe_model.specs.Pipe.{half}
 use Rattle.pipe_model.specs.Lending.{pipe_of}
 use Rattle.pipe_model.specs.Fallback.{stream, untaken}
-use Rattle.rc_link.specs.declared.Carried.{Carried}
+use Rattle.rc_link.specs.declared.InFlight.{InFlight}
 use Rattle.rc_link.specs.Wire.{Queues, unlanded as waiting_on, uncompleted as landed_on}
 use Rattle.side_core.specs.Setups.{IsSet}
-use Rattle.side_core.specs.Manager.{StandsFor}
+use Rattle.side_core.specs.Manager.{Represents}
 use Rattle.world_core.specs.OneLink.{the_link}
 use Rattle.world_core.specs.Played.{IsOneLink, IsPlayed, handed}
 use Rattle.world_core.specs.Heard.{all_bytes}
@@ -50,11 +50,11 @@ abbrev pub half_of : Setup → List ℕ → Side → ℕ → List Entry → Half
 half_of setup payload x s past = half x (pipe_of setup payload 1 s past)
 
 -- the plain snapshot beside a CDC message of a side under a token
-abbrev pub plain_under : Side → ℕ → Carried → Option Snapshot
+abbrev pub plain_under : Side → ℕ → InFlight → Option Snapshot
 plain_under x token c = option_map (λ m. c.plain) (cdc_under x token c.post)
 
 -- the plain snapshots beside those among carried posts
-abbrev pub plains : Side → ℕ → List Carried → List Snapshot
+abbrev pub plains : Side → ℕ → List InFlight → List Snapshot
 plains x token carried = filter_map (plain_under x token) carried
 
 -- the snapshots of messages
@@ -86,7 +86,7 @@ pub record IsWireAfter (setup : Setup) (payload : List ℕ) (x : Side) (past : L
   pub plain : (s : ℕ) (o : Offered) → offered (other x) s past ≡ Some o → TellsPlainly x o.offer.token w (half_of setup payload x s past)
 
 -- a wire after more posts
-abbrev pub with_posts : List Carried → Queues → Queues
+abbrev pub with_posts : List InFlight → Queues → Queues
 with_posts carried w = record w { waiting = w.waiting ++ carried }
 
 -- an untaken message is the next one of the history, and is about the link of its side's offer, where there is one
@@ -102,7 +102,7 @@ pub record IsStreamAfter (payload : List ℕ) (x : Side) (s : ℕ) (past : List 
 -- a host of a side stands for what a history makes of it: its manager, with the bytes that have landed in its RMB, its wire and
 -- its streams
 pub record IsHostAfter (setup : Setup) (payload : List ℕ) (x : Side) (past : List Entry) (h : Host) : Type 0 where
-  pub side : StandsFor h.core (manager_of setup payload (buffer_of setup payload x 1 past ∷ []) x past)
+  pub side : Represents h.core (manager_of setup payload (buffer_of setup payload x 1 past ∷ []) x past)
   pub wire : IsWireAfter setup payload x past (wire_at 1 h)
   pub sockets : length h.flows.items ≡ setup.sockets
   pub flows : (s : ℕ) → s < setup.sockets → IsStreamAfter payload x s past (outflow_at s h.flows.items)

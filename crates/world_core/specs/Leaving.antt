@@ -6,7 +6,7 @@ use Rattle.pipe_model.specs.declared.event.Event.{Event}
 use Rattle.pipe_model.specs.declared.event.Event.TheVariants.{Deliver, Complete}
 use Rattle.pipe_model.specs.declared.post.Post.{Post}
 use Rattle.pipe_model.specs.declared.post.Post.TheVariants.{Write, Cdc, Llc}
-use Rattle.rc_link.specs.declared.Carried.{Carried}
+use Rattle.rc_link.specs.declared.InFlight.{InFlight}
 use Rattle.rc_link.specs.Wire.{landing, completing, with_landed, with_completed}
 use Rattle.world_core.specs.declared.host.Host.{Host}
 use Rattle.world_core.specs.declared.moment.Moment.{Moment}
@@ -33,7 +33,7 @@ is_llc_post _ = false
 
 -- that a post of a side has just landed: the peer's host `k` stands for the history, and its own host `h` did, as it was when the
 -- wire still had the post
-pub record HasLanded (at : Moment) (x : Side) (c : Carried) (h k : Host) : Type 0 where
+pub record HasLanded (at : Moment) (x : Side) (c : InFlight) (h k : Host) : Type 0 where
   pub was : Host
   pub first : landing (wire_at 1 was) ≡ Some c
   pub wire : wire_at 1 h ≡ with_landed (Some c) (wire_at 1 was)
@@ -42,7 +42,7 @@ pub record HasLanded (at : Moment) (x : Side) (c : Carried) (h k : Host) : Type 
   pub hosts : AreHosts at x was k
 
 -- that one has just completed
-pub record HasCompleted (at : Moment) (x : Side) (c : Carried) (h k : Host) : Type 0 where
+pub record HasCompleted (at : Moment) (x : Side) (c : InFlight) (h k : Host) : Type 0 where
   pub was : Host
   pub first : completing (wire_at 1 was) ≡ Some c
   pub wire : wire_at 1 h ≡ with_completed (Some c) (wire_at 1 was)

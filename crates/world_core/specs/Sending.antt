@@ -15,7 +15,7 @@ use Rattle.pipe_model.specs.declared.post.Post.TheVariants.{Write, Cdc, Llc, Clc
 use Rattle.pipe_model.specs.declared.post.PostRef.{PostRef}
 use Rattle.pipe_model.specs.Ends.{Half}
 use Rattle.tcp_pipe.specs.Streams.{free}
-use Rattle.rc_link.specs.declared.Carried.{Carried}
+use Rattle.rc_link.specs.declared.InFlight.{InFlight}
 use Rattle.rc_link.specs.Wire.{Queues, empty, with_post, landing, completing, with_landed, with_completed}
 use Rattle.conn_end.specs.Kept.{Kept}
 use Rattle.side_core.specs.Records.{aimer, half_at}
@@ -41,7 +41,7 @@ goes_on_wire (Clc from s link message) = false
 goes_on_wire _ = true
 
 -- the posts of an entry that go on the wire, the first of them all having this number
-abbrev pub carried_from : Manager Half → ℕ → ℕ → List Post → List Carried
+abbrev pub carried_from : Manager Half → ℕ → ℕ → List Post → List InFlight
 carried_from m entry first [] = []
 carried_from m entry first (post ∷ posts) =
     if goes_on_wire post then record { at = record { entry = entry; post = first }; post = post; plain = plain_of m post } ∷ carried_from m entry (first + 1) posts

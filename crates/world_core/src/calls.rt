@@ -12,7 +12,7 @@ ghost use Rattle.tcp_pipe.specs.Streams.{free};
 ghost use Rattle.conn_end.specs.Told.{Answers};
 ghost use Rattle.side_core.specs.Acting.{handed_out};
 ghost use Rattle.side_core.specs.Landing.{told_at as told_by_end};
-ghost use Rattle.side_core.specs.Manager.{Manager, StandsFor, state_at};
+ghost use Rattle.side_core.specs.Manager.{Manager, Represents, state_at};
 ghost use Rattle.side_core.specs.Records.{half_at, route_at};
 ghost use Rattle.world_core.specs.Calling.{MayCall, IsCalledAt, replied, taken, hands_over};
 ghost use Rattle.world_core.specs.Streams.{takes_in};
@@ -144,8 +144,8 @@ fn write_up(
 ) -> Reply
     requires may { MayCall s (Writes bytes.now) own.old }
     requires none { posts.old.items ≡ [] }
-    ensures told { (m : Manager Half) → StandsFor own.old.core m → Plain result ≡ told_by_end s (Writes bytes.now) [] m }
-    ensures called { (m : Manager Half) → StandsFor own.old.core m → IsCalledAt s (Writes bytes.now) entry m own.old own.new posts.new.items }
+    ensures told { (m : Manager Half) → Represents own.old.core m → Plain result ≡ told_by_end s (Writes bytes.now) [] m }
+    ensures called { (m : Manager Half) → Represents own.old.core m → IsCalledAt s (Writes bytes.now) entry m own.old own.new posts.new.items }
 {
     let reply = own.core.write(s, bytes, posts);
     own.send(entry, posts);
@@ -163,9 +163,9 @@ fn read_up(
     requires may { MayCall s (Reads (length out.old)) own.old }
     requires few { length out.old < 2 ^ 32 }
     requires none { posts.old.items ≡ [] }
-    ensures told { (m : Manager Half) → StandsFor own.old.core m → Answers m.records.terms.size (Reads (length out.old)) (half_at s m.records) result }
+    ensures told { (m : Manager Half) → Represents own.old.core m → Answers m.records.terms.size (Reads (length out.old)) (half_at s m.records) result }
     ensures out { out.new ≡ handed_out result (route_at s own.old.core.records) own.old.core ++ drop (length (handed_out result (route_at s own.old.core.records) own.old.core)) out.old }
-    ensures called { (m : Manager Half) → StandsFor own.old.core m → IsCalledAt s (Reads (length out.old)) entry m own.old own.new posts.new.items }
+    ensures called { (m : Manager Half) → Represents own.old.core m → IsCalledAt s (Reads (length out.old)) entry m own.old own.new posts.new.items }
 {
     let answer = own.core.read(s, out, posts);
     own.send(entry, posts);

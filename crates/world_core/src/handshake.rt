@@ -6,7 +6,7 @@ ghost use Rattle.smc_num.specs.Names.{other};
 ghost use Rattle.clc_wire.specs.Clc.{clc_length};
 ghost use Rattle.pipe_model.specs.declared.event.Event.TheVariants.{Open, Clc};
 ghost use Rattle.pipe_model.specs.Ends.{Half};
-ghost use Rattle.side_core.specs.Manager.{Manager, StandsFor, state_at};
+ghost use Rattle.side_core.specs.Manager.{Manager, Represents, state_at};
 ghost use Rattle.side_core.specs.Taking.{with_desk};
 ghost use Rattle.world_core.specs.Handing.{due_on, has_end, hands_over, is_taken_on, link_made_by, makes_at, MayMake};
 ghost use Rattle.world_core.specs.Hosts.{AreHosts, IsPlayedBy, past_of, paths_after};
@@ -133,7 +133,7 @@ fn take_next(
 fn hand_over(host: &mut Host, s: u32, next: &Untaken, reply: Reply)
     requires socket { s < length host.old.flows.items }
     requires made { MayMake (link_made_by reply next.now.link) host.old.core.desk }
-    ensures core { (m : Manager Half) → StandsFor host.old.core m → StandsFor host.new.core (with_desk (makes_at (link_made_by reply next.now.link)) m) }
+    ensures core { (m : Manager Half) → Represents host.old.core m → Represents host.new.core (with_desk (makes_at (link_made_by reply next.now.link)) m) }
     ensures wires { host.new.wires.items ≡ host.old.wires.items }
     ensures flows { host.new.flows.items ≡ hands_over s next.now.message host.old.flows.items }
 {

@@ -4,7 +4,7 @@ ghost use Rattle.clc_wire.specs.Clc.{Fits};
 ghost use Rattle.pipe_model.specs.Ends.{Half};
 ghost use Rattle.rc_link.specs.Wire.{empty, room_of, with_post};
 ghost use Rattle.side_core.specs.Setups.{IsSet};
-ghost use Rattle.side_core.specs.Manager.{Manager, StandsFor, new_manager};
+ghost use Rattle.side_core.specs.Manager.{Manager, Represents, new_manager};
 ghost use Rattle.world_core.specs.Hosts.{places_of, wire_at, with_posts};
 ghost use Rattle.world_core.specs.Sending.{carried_from, goes_on_wire, outflow_at, posts_one, puts, puts_all, puts_one, still, MaySend, MaySendAll};
 
@@ -13,7 +13,7 @@ use crate::wires::{self, new_wires};
 use arrayvec::ArrayVec;
 use clc_wire::write_clc;
 use pipe_model::{ClcMessage, LinkId, Post, PostRef, Setup, Side, Snapshot};
-use rc_link::{Carried, Wire};
+use rc_link::{InFlight, Wire};
 use side_core::SideCore;
 use smc_num::NoMemory;
 use std::alloc::Global;
@@ -57,7 +57,7 @@ impl Host {
     /// A host that nothing concerned. It takes all its memory here.
     pub fn new(alloc: Global, side: Side, setup: &Setup) -> Result<Host, NoMemory>
         requires { IsSet setup.now side }
-        ensures core { IfOk result (λ host. StandsFor host.core (new_manager side setup.now)) }
+        ensures core { IfOk result (λ host. Represents host.core (new_manager side setup.now)) }
         ensures wires { IfOk result (λ host. host.wires.items ≡ replicate setup.now.links (empty (places_of setup.now side) false)) }
         ensures flows { IfOk result (λ host. host.flows.items ≡ replicate setup.now.sockets still) }
     {
@@ -74,7 +74,7 @@ impl Host {
         requires few { length posts.now ≤ 6 }
         requires room { length (filter goes_on_wire posts.now) ≤ room_of (wire_at 1 self.old) }
         ensures core { self.new.core ≡ self.old.core }
-        ensures wire { (m : Manager Half) → StandsFor self.old.core m → wire_at 1 self.new ≡ with_posts (carried_from m entry 1 posts.now) (wire_at 1 self.old) }
+        ensures wire { (m : Manager Half) → Represents self.old.core m → wire_at 1 self.new ≡ with_posts (carried_from m entry 1 posts.now) (wire_at 1 self.old) }
         ensures flows { self.new.flows.items ≡ puts_all posts.now self.old.flows.items }
     {
         let mut place = PostRef { entry, post: 1 };
@@ -89,7 +89,7 @@ impl Host {
         requires may { MaySend (length self.old.flows.items) self.old.core post.now }
         requires room { goes_on_wire post.now ≡ true → 0 < room_of (wire_at 1 self.old) }
         ensures core { self.new.core ≡ self.old.core }
-        ensures wire { (m : Manager Half) → StandsFor self.old.core m → wire_at 1 self.new ≡ posts_one m at post.now (wire_at 1 self.old) }
+        ensures wire { (m : Manager Half) → Represents self.old.core m → wire_at 1 self.new ≡ posts_one m at post.now (wire_at 1 self.old) }
         ensures flows { self.new.flows.items ≡ puts_one post.now self.old.flows.items }
         ensures room { room_of (wire_at 1 self.new) ≡ room_of (wire_at 1 self.old) - (if goes_on_wire post.now then 1 else 0) }
     {
@@ -119,7 +119,7 @@ impl Host {
         wires::post(
             &mut self.wires,
             slot,
-            Carried {
+            InFlight {
                 at,
                 post: *post,
                 plain,

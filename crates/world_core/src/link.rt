@@ -14,7 +14,7 @@ use crate::moment::Moment;
 use crate::wires;
 use arrayvec::ArrayVec;
 use pipe_model::{LinkPhase, LinkView, Post, Reply};
-use rc_link::Carried;
+use rc_link::InFlight;
 use side_core::SideCore;
 
 /// The next post of a host lands: the bytes of a write stand in the RMB of its peer, and a message is taken
@@ -43,7 +43,7 @@ fn land(
     own: &Host,
     theirs: &mut Host,
     moment: Moment<'_>,
-    landed: Carried,
+    landed: InFlight,
     posts: &mut ArrayVec<Post, 6>,
 ) -> Reply
     requires landed { (x : SideT) × HasLanded moment x landed own.now theirs.old }
@@ -66,7 +66,7 @@ fn land(
 }
 
 /// The bytes of a write stand in the RMB of the peer. The CDC message that follows it names their end.
-fn land_write(own: &Host, theirs: &mut Host, landed: Carried)
+fn land_write(own: &Host, theirs: &mut Host, landed: InFlight)
     requires landed { (at : MomentT) × (x : SideT) × HasLanded at x landed own.now theirs.old × (length at.history.now < 2 ^ 18) }
     requires write { is_write_post landed.post ≡ true }
     ensures { (at : MomentT) (x : SideT) → HasLanded at x landed own.now theirs.old → length at.history.now < 2 ^ 18 → IsPlayedBy at (Deliver 1 x) (Landed landed.at) [] x own.now theirs.new }
@@ -92,7 +92,7 @@ fn land_write(own: &Host, theirs: &mut Host, landed: Carried)
 fn land_cdc(
     theirs: &mut Host,
     moment: Moment<'_>,
-    landed: Carried,
+    landed: InFlight,
     posts: &mut ArrayVec<Post, 6>,
 ) -> Reply
     requires landed { (x : SideT) × (own : HostT) × HasLanded moment x landed own theirs.old }
@@ -117,7 +117,7 @@ fn land_llc(
     own: &Host,
     theirs: &mut Host,
     moment: Moment<'_>,
-    landed: Carried,
+    landed: InFlight,
     posts: &mut ArrayVec<Post, 6>,
 )
     requires landed { (x : SideT) × HasLanded moment x landed own.now theirs.old }
@@ -176,7 +176,7 @@ pub fn complete(
 }
 
 /// A post that has just completed is made known to the end that sent it, where it is a CDC message.
-fn finish(own: &mut Host, moment: Moment<'_>, done: Carried, posts: &mut ArrayVec<Post, 6>)
+fn finish(own: &mut Host, moment: Moment<'_>, done: InFlight, posts: &mut ArrayVec<Post, 6>)
     requires completed { (x : SideT) × (theirs : HostT) × HasCompleted moment x done own.old theirs }
     requires few { length moment.history.now < 2 ^ 18 }
     requires none { posts.old.items ≡ [] }

@@ -5,7 +5,7 @@ ghost use Rattle.world_core.specs.Sending.{wire_in};
 
 use crate::lists::with_room;
 use pipe_model::CdcMessage;
-use rc_link::{Carried, Wire};
+use rc_link::{InFlight, Wire};
 use smc_num::NoMemory;
 use std::alloc::Global;
 
@@ -38,7 +38,7 @@ fn place(slot: u8) -> usize
 }
 
 /// A post goes on the wire of a slot, which has room for it.
-pub fn post(wires: &mut Vec<Wire>, slot: u8, item: Carried)
+pub fn post(wires: &mut Vec<Wire>, slot: u8, item: InFlight)
     requires { 0 < room_of (wire_in slot wires.old.items) }
     ensures { wires.new.items ≡ slice_set wires.old.items (slot - 1) (with_post item (wire_in slot wires.old.items)) }
 {
@@ -49,7 +49,7 @@ pub fn post(wires: &mut Vec<Wire>, slot: u8, item: Carried)
 }
 
 /// The next post on a slot lands, if there is one.
-pub fn land(wires: &mut Vec<Wire>, slot: u8) -> Option<Carried>
+pub fn land(wires: &mut Vec<Wire>, slot: u8) -> Option<InFlight>
     ensures post { result ≡ landing (wire_in slot wires.old.items) }
     ensures wire { wire_in slot wires.new.items ≡ with_landed (landing (wire_in slot wires.old.items)) (wire_in slot wires.old.items) }
 {
@@ -60,7 +60,7 @@ pub fn land(wires: &mut Vec<Wire>, slot: u8) -> Option<Carried>
 }
 
 /// The oldest landed post on a slot completes, if there is one.
-pub fn complete(wires: &mut Vec<Wire>, slot: u8) -> Option<Carried>
+pub fn complete(wires: &mut Vec<Wire>, slot: u8) -> Option<InFlight>
     ensures post { result ≡ completing (wire_in slot wires.old.items) }
     ensures wire { wire_in slot wires.new.items ≡ with_completed (completing (wire_in slot wires.old.items)) (wire_in slot wires.old.items) }
 {

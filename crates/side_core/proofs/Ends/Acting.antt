@@ -4,7 +4,7 @@ use Rattle.std.proofs.Common.{◌≡◌, ◌∙◌, ℕ, ◌<◌, ◌^◌, Bool,
 use Rattle.smc_num.specs.Names.{no_link}
 use Rattle.pipe_model.specs.Ends.{Half, settle}
 use Rattle.conn_end.specs.Batches.{may_post}
-use Rattle.conn_end.specs.Kept.{Kept, StandsFor, SameTerms}
+use Rattle.conn_end.specs.Kept.{Kept, Represents, SameTerms}
 use Rattle.side_core.specs.Records.{Connection, Stands}
 use Rattle.side_core.specs.Inside.{IsAimed, IsSet, IsMade, IsFiled}
 use Rattle.pipe_model.specs.Pipe.{Terms}
@@ -12,7 +12,7 @@ use Rattle.side_core.specs.Posting.{SameCourse}
 use Rattle.side_core.proofs.Ends.Keeping.{IsAlike, settle_up, settle_link}
 
 -- it stays set up
-pub set_after : (c : Connection Kept) (new : Kept) (g : Half) → IsSet c → SameTerms c.end new → new.owes ≡ c.end.owes → StandsFor new g → IsSet (record c { end = new })
+pub set_after : (c : Connection Kept) (new : Kept) (g : Half) → IsSet c → SameTerms c.end new → new.owes ≡ c.end.owes → Represents new g → IsSet (record c { end = new })
 set_after c new g set terms owes stands = record {
   kept = stands.whole;
   owes = owes ∙ set.owes;
@@ -20,12 +20,12 @@ set_after c new g set terms owes stands = record {
 }
 
 -- its number stays
-pub number_after : (old new : Kept) (h g : Half) → StandsFor old h → StandsFor new g → IsAlike h g → old.course.number < 2 ^ 63 → new.course.number < 2 ^ 63
+pub number_after : (old new : Kept) (h g : Half) → Represents old h → Represents new g → IsAlike h g → old.course.number < 2 ^ 63 → new.course.number < 2 ^ 63
 number_after old new h g before after alike small = subst (λ n. n < 2 ^ 63) (before.number ∙ sym alike.number ∙ sym after.number) small
 
 -- what is due is posted by the depth that it was made with
-pub settled : (old mid new : Kept) (g : Half) → SameTerms old mid → StandsFor new (settle mid.course.depth g) → StandsFor new (settle old.course.depth g)
-settled old mid new g terms stands = subst (λ d. StandsFor new (settle d g)) terms.depth stands
+pub settled : (old mid new : Kept) (g : Half) → SameTerms old mid → Represents new (settle mid.course.depth g) → Represents new (settle old.course.depth g)
+settled old mid new g terms stands = subst (λ d. Represents new (settle d g)) terms.depth stands
 
 -- an end that may post, or may not, as told
 abbrev pub may_post_so : Bool → Half → Half
@@ -45,10 +45,10 @@ filed_after terms by_token by_peer s old new filed same set = record {
 }
 
 -- and stands for what was done to the plain one
-pub acted_stands : (old new : Connection Kept) (c : Connection Half) (g : Half) (depth : ℕ) → SameCourse old new → Stands old c → IsAlike c.end g → StandsFor new.end (settle old.end.course.depth g) → old.end.course.depth ≡ depth → Stands new (record c { end = settle depth g })
+pub acted_stands : (old new : Connection Kept) (c : Connection Half) (g : Half) (depth : ℕ) → SameCourse old new → Stands old c → IsAlike c.end g → Represents new.end (settle old.end.course.depth g) → old.end.course.depth ≡ depth → Stands new (record c { end = settle depth g })
 acted_stands old new c g depth same stands alike after is = record {
   route = same.route ∙ stands.route;
   up = settle_up depth g ∙ alike.up ∙ stands.up;
   link = λ up. settle_link depth g ∙ alike.link ∙ stands.link up;
-  end = subst (λ d. StandsFor new.end (settle d g)) is after;
+  end = subst (λ d. Represents new.end (settle d g)) is after;
 }

@@ -1,6 +1,6 @@
 -- What the end of a socket does under its manager.
 -- A reader learns here that calls, landings and completions leave the live links, and that the manager then stands for what they make of it.
-use Rattle.std.proofs.Common.{◌≡◌, ◌∙◌, ℕ, ◌<◌, ◌&&◌, ◌++◌, Bool, true, false, cond, List, [], length, Option, Some, None, IsSome, IfSome, option_map, refl, sym, ap, subst, true≢false}
+use Rattle.std.proofs.Common.{◌≡◌, ◌∙◌, ℕ, ◌<◌, ◌&&◌, ◌++◌, Bool, true, false, cond, List, [], length, Option, Some, None, is_some, IsSome, IfSome, option_map, refl, sym, ap, subst, true≢false}
 use Rattle.smc_num.specs.declared.LinkId.{LinkId}
 use Rattle.smc_num.specs.Names.{has_link}
 use Rattle.smc_num.specs.Links.{live_links}
@@ -21,9 +21,12 @@ use Rattle.side_core.specs.declared.route.Way.{Way}
 use Rattle.side_core.specs.Records.{Connection, Records, AllStand, StandsAt, conn_at, half_at, route_at, settles}
 use Rattle.side_core.specs.Posting.{IsWay, posts_at, due_posts}
 use Rattle.side_core.specs.Desk.{Desk}
-use Rattle.side_core.specs.Manager.{Manager, StandsFor, IsTiedAt}
-use Rattle.side_core.specs.Acting.{way_of, due_at, due_from, acts_at, call_of}
-use Rattle.side_core.proofs.Ends.Keeping.{IsAlike, writes_alike, reads_alike, takes_alike, completes_alike}
+use Rattle.side_core.specs.Manager.{Manager, Represents, IsTiedAt}
+use Rattle.side_core.specs.Acting.{way_of, due_at, due_from, acts_at}
+use Rattle.side_core.specs.declared.change.EndCall.{EndCall}
+use Rattle.side_core.specs.declared.change.EndCall.TheVariants.{Finish, Close, Abort}
+use Rattle.side_core.specs.Changes.{named}
+use Rattle.side_core.proofs.Ends.Keeping.{IsAlike, writes_alike, reads_alike, ends_alike, takes_alike, completes_alike}
 use Rattle.side_core.proofs.Ends.Standing.{there_within}
 use Rattle.side_core.proofs.Ends.Workings.{settle_live, tied_changes}
 
@@ -46,6 +49,11 @@ writes_leave bytes size = record { alike = writes_alike size bytes; live = λ h.
 
 pub reads_leave : (n size : ℕ) → Leaves (calls size (Reads n))
 reads_leave n size = record { alike = reads_alike size n; live = λ h. either_live h.live h _ _ refl refl }
+
+pub ends_leave : (call : EndCall) (size : ℕ) → Leaves (calls size (named call))
+ends_leave Finish size = record { alike = ends_alike size Finish; live = λ h. either_live h.live h _ (is_some (cause_of h.phase)) refl refl }
+ends_leave Close size = record { alike = ends_alike size Close; live = λ h. either_live h.live h _ (is_some (cause_of h.phase)) refl refl }
+ends_leave Abort size = record { alike = ends_alike size Abort; live = λ h. refl }
 
 pub takes_leave : (sent : Sent) → Leaves (takes (Some sent))
 takes_leave sent = record {
@@ -80,7 +88,7 @@ way_there act way d (Some k) (Some c) leaves stands tied is =
     by_up false same = refl
     by_up true same = ap (λ l. has_link l (live_links d.links.known)) (sym (same refl)) ∙ ap (has_link c.end.link) (sym tied.live)
 
-pub way_told : (s : ℕ) (act : Half → Half) (way : Way) (v : Manager Kept) (m : Manager Half) → Leaves act → StandsFor v m → IsWayOf s way v → IsWay act way (conn_at s m.records)
+pub way_told : (s : ℕ) (act : Half → Half) (way : Way) (v : Manager Kept) (m : Manager Half) → Leaves act → Represents v m → IsWayOf s way v → IsWay act way (conn_at s m.records)
 way_told s act way v m leaves stands is =
     way_there act way v.desk (conn_at s v.records) (conn_at s m.records) leaves (stands.works.records.each s)
     (subst (λ (d : Desk). IsTiedAt d.links.known (conn_at s m.records)) (sym stands.works.desk) (stands.works.tied s)) is
@@ -95,7 +103,7 @@ due_there act way d m (Some k) (Some c) same stands is =
     (is ∙ ap (way_of d) stands.route ∙ ap (λ (x : Desk). way_of x c.route) same)
 
 -- the manager after something was done to the end of a socket
-pub acted : (s : ℕ) (act : Half → Half) (way : Way) (v : Manager Kept) (w : Records Kept) (m : Manager Half) → Leaves act → IsSome (conn_at s v.records) → IsWayOf s way v → (IsWay act way (conn_at s m.records) → AllStand w (settles s act m.records)) → StandsFor v m → StandsFor (record v { records = w }) (acts_at s act m)
+pub acted : (s : ℕ) (act : Half → Half) (way : Way) (v : Manager Kept) (w : Records Kept) (m : Manager Half) → Leaves act → IsSome (conn_at s v.records) → IsWayOf s way v → (IsWay act way (conn_at s m.records) → AllStand w (settles s act m.records)) → Represents v m → Represents (record v { records = w }) (acts_at s act m)
 acted s act way v w m leaves some is after stands = record {
   works = record {
     desk = stands.works.desk;
@@ -111,39 +119,46 @@ acted s act way v w m leaves some is after stands = record {
     within None e there = absurd (true≢false (sym there))
     within (Some k) e there = there_within v.records.by_socket s k e
 
-pub acted_posts : (s : ℕ) (act : Half → Half) (way : Way) (v : Manager Kept) (m : Manager Half) (before after : List Post) → Leaves act → IsWayOf s way v → (IsWay act way (conn_at s m.records) → after ≡ before ++ posts_at s act way m.records (conn_at s m.records)) → StandsFor v m → after ≡ before ++ due_at s act m
+pub acted_posts : (s : ℕ) (act : Half → Half) (way : Way) (v : Manager Kept) (m : Manager Half) (before after : List Post) → Leaves act → IsWayOf s way v → (IsWay act way (conn_at s m.records) → after ≡ before ++ posts_at s act way m.records (conn_at s m.records)) → Represents v m → after ≡ before ++ due_at s act m
 acted_posts s act way v m before after leaves is posts stands =
     posts (way_told s act way v m leaves stands is)
     ∙ ap (λ (ps : List Post). before ++ ps) (due_there act way v.desk m (conn_at s v.records) (conn_at s m.records) stands.works.desk (stands.works.records.each s) is)
 
 -- how many bytes an element has for both
-pub same_size : (v : Manager Kept) (m : Manager Half) → StandsFor v m → v.records.terms.size ≡ m.records.terms.size
+pub same_size : (v : Manager Kept) (m : Manager Half) → Represents v m → v.records.terms.size ≡ m.records.terms.size
 same_size v m stands = ap (λ (t : Terms). t.size) stands.works.records.terms
 
--- the manager after a call
-pub called : (s : ℕ) (call : Call) (way : Way) (v : Manager Kept) (w : Records Kept) (m : Manager Half) → ((size : ℕ) → Leaves (calls size call)) → IsSome (conn_at s v.records) → IsWayOf s way v
-    → ((r : Records Half) → AllStand v.records r → IsWay (calls v.records.terms.size call) way (conn_at s r) → AllStand w (settles s (calls v.records.terms.size call) r))
-    → StandsFor v m → StandsFor (record v { records = w }) (acts_at s (call_of call m) m)
-called s call way v w m leaves some is after stands =
-    subst (λ n. StandsFor (record v { records = w }) (acts_at s (calls n call) m)) (same_size v m stands)
-    (acted s (calls v.records.terms.size call) way v w m (leaves v.records.terms.size) some is (after m.records stands.works.records) stands)
+-- that a call hands out no bytes, whatever its end has come to
+record IsNoRead (call : Call) : Type 0 where
+  is : (size : ℕ) (h : Half) (out : List ℕ) (cause : Option ResetCause) → IsPlain (half_told size call h out cause)
 
-pub called_posts : (s : ℕ) (call : Call) (way : Way) (v : Manager Kept) (m : Manager Half) (before after : List Post) → ((size : ℕ) → Leaves (calls size call)) → IsWayOf s way v
-    → ((r : Records Half) → AllStand v.records r → IsWay (calls v.records.terms.size call) way (conn_at s r) → after ≡ before ++ posts_at s (calls v.records.terms.size call) way r (conn_at s r))
-    → StandsFor v m → after ≡ before ++ due_at s (call_of call m) m
-called_posts s call way v m before after leaves is posts stands =
-    subst (λ n. after ≡ before ++ due_at s (calls n call) m) (same_size v m stands)
-    (acted_posts s (calls v.records.terms.size call) way v m before after (leaves v.records.terms.size) is (posts m.records stands.works.records) stands)
+-- then it is told what the definitions tell it
+no_read_told : (s : ℕ) (call : Call) (v : Manager Kept) (m : Manager Half) (reply : EndReply) (result : Reply) → IsNoRead call → Represents v m → Answers v.records.terms.size call (half_at s m.records) reply
+    → ((rd : ℕ) (told : Reply) → told_of reply rd [] ≡ Plain told → result ≡ told) → Plain result ≡ told_at s call [] m
+no_read_told s call v m reply result no_read stands answers is =
+    let h : Half = half_at s m.records in
+    let plain : IsPlain (half_told m.records.terms.size call h [] (cause_of h.phase)) = no_read.is m.records.terms.size h [] (cause_of h.phase) in
+    let told : told_of reply h.rd [] ≡ half_told m.records.terms.size call h [] (cause_of h.phase) = subst (λ n. told_of reply h.rd [] ≡ half_told n call h [] (cause_of h.phase)) (same_size v m stands) (answers.told []) in
+    ap Plain (is h.rd plain.reply (told ∙ plain.is)) ∙ sym plain.is
 
 -- what a write is told
-write_plain : (size : ℕ) (bytes : List ℕ) (h : Half) (out : List ℕ) (cause : Option ResetCause) → IsPlain (half_told size (Writes bytes) h out cause)
-write_plain size bytes h out None = record { reply = _; is = refl }
-write_plain size bytes h out (Some cause) = record { reply = _; is = refl }
+write_plain : (bytes : List ℕ) (size : ℕ) (h : Half) (out : List ℕ) (cause : Option ResetCause) → IsPlain (half_told size (Writes bytes) h out cause)
+write_plain bytes size h out None = record { reply = _; is = refl }
+write_plain bytes size h out (Some cause) = record { reply = _; is = refl }
 
-pub write_told : (s : ℕ) (bytes : List ℕ) (v : Manager Kept) (m : Manager Half) (reply : EndReply) (result : Reply) → StandsFor v m → Answers v.records.terms.size (Writes bytes) (half_at s m.records) reply
+pub write_told : (s : ℕ) (bytes : List ℕ) (v : Manager Kept) (m : Manager Half) (reply : EndReply) (result : Reply) → Represents v m → Answers v.records.terms.size (Writes bytes) (half_at s m.records) reply
     → ((rd : ℕ) (told : Reply) → told_of reply rd [] ≡ Plain told → result ≡ told) → Plain result ≡ told_at s (Writes bytes) [] m
-write_told s bytes v m reply result stands answers is =
-    let h : Half = half_at s m.records in
-    let plain : IsPlain (half_told m.records.terms.size (Writes bytes) h [] (cause_of h.phase)) = write_plain m.records.terms.size bytes h [] (cause_of h.phase) in
-    let told : told_of reply h.rd [] ≡ half_told m.records.terms.size (Writes bytes) h [] (cause_of h.phase) = subst (λ n. told_of reply h.rd [] ≡ half_told n (Writes bytes) h [] (cause_of h.phase)) (same_size v m stands) (answers.told []) in
-    ap Plain (is h.rd plain.reply (told ∙ plain.is)) ∙ sym plain.is
+write_told s bytes v m reply result stands answers is = no_read_told s (Writes bytes) v m reply result (record { is = write_plain bytes }) stands answers is
+
+-- what finish, close and abort are told
+end_plain : (call : EndCall) (size : ℕ) (h : Half) (out : List ℕ) (cause : Option ResetCause) → IsPlain (half_told size (named call) h out cause)
+end_plain Finish size h out None = record { reply = _; is = refl }
+end_plain Finish size h out (Some cause) = record { reply = _; is = refl }
+end_plain Close size h out None = record { reply = _; is = refl }
+end_plain Close size h out (Some cause) = record { reply = _; is = refl }
+end_plain Abort size h out None = record { reply = _; is = refl }
+end_plain Abort size h out (Some cause) = record { reply = _; is = refl }
+
+pub end_told : (s : ℕ) (call : EndCall) (v : Manager Kept) (m : Manager Half) (reply : EndReply) (result : Reply) → Represents v m → Answers v.records.terms.size (named call) (half_at s m.records) reply
+    → ((rd : ℕ) (told : Reply) → told_of reply rd [] ≡ Plain told → result ≡ told) → Plain result ≡ told_at s (named call) [] m
+end_told s call v m reply result stands answers is = no_read_told s (named call) v m reply result (record { is = end_plain call }) stands answers is

@@ -15,7 +15,7 @@ use Rattle.pipe_model.specs.Snapshot.{spelled}
 use Rattle.pipe_model.specs.Ends.{Half, present, batch, is_due}
 use Rattle.pipe_model.specs.Posts.{writes, offered_place}
 use Rattle.conn_end.specs.declared.answers.Batch.{Batch}
-use Rattle.conn_end.specs.Kept.{Kept, StandsFor}
+use Rattle.conn_end.specs.Kept.{Kept, Represents}
 use Rattle.conn_end.specs.Batches.{front_of, back_of, may_post, owed_alone, message_of, due_with, batch_of}
 use Rattle.conn_end.proofs.Arriving.{last_within}
 use Rattle.side_core.specs.declared.route.Way.{Way}
@@ -126,7 +126,7 @@ no_peer size depth x key peer h none = ap (λ p. due_posts size depth x key p h)
     by_due false = refl
 
 -- the bytes that a batch tells begin no later than they end
-pub tells_on : (k : Kept) (h : Half) → StandsFor k h → (batch h).from ≤ (present h).told
+pub tells_on : (k : Kept) (h : Half) → Represents k h → (batch h).from ≤ (present h).told
 tells_on k h stands = by_reset (present h).aborted
   where
     from : h.last.told ≤ length h.out
@@ -137,7 +137,7 @@ tells_on k h stands = by_reset (present h).aborted
     by_reset false = from
 
 -- what the batch of an end posts is what is due
-pub posts_due : (k : Kept) (h : Half) (b : Batch) (o : Offer) (way : Way) (link : LinkId) → k.owes ≡ false → Some b ≡ batch_of k h → StandsFor k h → k.token ≡ o.token → (h.up ≡ true → h.link ≡ link) → posts_of_batch k.size way link o b ≡ due_posts k.size k.course.depth way.side way.key (Some o) h
+pub posts_due : (k : Kept) (h : Half) (b : Batch) (o : Offer) (way : Way) (link : LinkId) → k.owes ≡ false → Some b ≡ batch_of k h → Represents k h → k.token ≡ o.token → (h.up ≡ true → h.link ≡ link) → posts_of_batch k.size way link o b ≡ due_posts k.size k.course.depth way.side way.key (Some o) h
 posts_due k h b o way link owes is stands token on = by_due (is_due k.course.depth h) refl
   where
     posts_with : LinkId → ℕ → List Post

@@ -1,10 +1,14 @@
 -- Calls and messages of an end, and what they leave as it is.
 -- A reader learns here that none of them changes the number last used, the end's link, or whether it is established.
-use Rattle.std.proofs.Common.{◌≡◌, ◌∙◌, ℕ, Bool, true, false, cond, Some, refl, sym, ap}
+use Rattle.std.proofs.Common.{◌≡◌, ◌∙◌, ℕ, Bool, true, false, cond, Some, is_some, refl, sym, ap}
 use Rattle.pipe_model.specs.declared.sent.Sent.{Sent}
 use Rattle.pipe_model.specs.Snapshot.{shows_gap}
 use Rattle.pipe_model.specs.Ends.{Half, is_due, posts_batch, settle, takes, validates, takes_snapshot, completes}
+use Rattle.pipe_model.specs.Closing.{cause_of}
 use Rattle.pipe_model.specs.Calls.{Writes, Reads, calls}
+use Rattle.side_core.specs.declared.change.EndCall.{EndCall}
+use Rattle.side_core.specs.declared.change.EndCall.TheVariants.{Finish, Close, Abort}
+use Rattle.side_core.specs.Changes.{named}
 
 -- that an end is on the same link as another one, established likewise, and has used the same number last
 pub record IsAlike (h g : Half) : Type 0 where
@@ -24,6 +28,11 @@ writes_alike size bytes h = by_either h h _ _ (alike_itself h) (record { number 
 
 pub reads_alike : (size n : ℕ) (h : Half) → IsAlike h (calls size (Reads n) h)
 reads_alike size n h = by_either h h _ _ (alike_itself h) (record { number = refl; up = refl; link = refl })
+
+pub ends_alike : (size : ℕ) (call : EndCall) (h : Half) → IsAlike h (calls size (named call) h)
+ends_alike size Finish h = by_either h h _ (is_some (cause_of h.phase)) (alike_itself h) (record { number = refl; up = refl; link = refl })
+ends_alike size Close h = by_either h h _ (is_some (cause_of h.phase)) (alike_itself h) (record { number = refl; up = refl; link = refl })
+ends_alike size Abort h = record { number = refl; up = refl; link = refl }
 
 pub takes_alike : (sent : Sent) (h : Half) → IsAlike h (takes (Some sent) h)
 takes_alike sent h = by_either h h _ _ (alike_itself h)

@@ -6,7 +6,7 @@ use Rattle.std.proofs.lemmas.List.{get_or-set_same, get_or-set_other, get_or_pas
 use Rattle.pipe_model.specs.Pipe.{Terms}
 use Rattle.pipe_model.specs.Ends.{Half, fresh, settle, comes_up}
 use Rattle.pipe_model.specs.declared.post.Post.{Post}
-use Rattle.conn_end.specs.Kept.{Kept, StandsFor}
+use Rattle.conn_end.specs.Kept.{Kept, Represents}
 use Rattle.side_core.specs.declared.route.Way.{Way}
 use Rattle.side_core.specs.Records.{Connection, Records, AllStand, IsSized, Stands, StandsAt, conn_at, half_at, changes, settles, begins, leaves, new_route}
 use Rattle.side_core.specs.Inside.{IsMade}
@@ -101,7 +101,7 @@ pub is_way : (act : Half → Half) (way : Way) (r : Records Half) (s : ℕ) (c :
 is_way act way r s c is way_is = subst (IsWay act way) is way_is
 
 -- something was done to the end of a socket, and what was due then was posted
-pub settles_at : (v w : Records Kept) (r : Records Half) (s : ℕ) (old new : Connection Kept) (act : Half → Half) → AllStand v r → IsWith v s (Some new) w → conn_at s v ≡ Some old → IsMade v.terms old.end → SameCourse old new → (found : IsFound r s old) → IsAlike found.conn.end (act found.conn.end) → StandsFor new.end (settle old.end.course.depth (act found.conn.end)) → AllStand w (settles s act r)
+pub settles_at : (v w : Records Kept) (r : Records Half) (s : ℕ) (old new : Connection Kept) (act : Half → Half) → AllStand v r → IsWith v s (Some new) w → conn_at s v ≡ Some old → IsMade v.terms old.end → SameCourse old new → (found : IsFound r s old) → IsAlike found.conn.end (act found.conn.end) → Represents new.end (settle old.end.course.depth (act found.conn.end)) → AllStand w (settles s act r)
 settles_at v w r s old new act all is_with is made same found alike after =
     changed_stands v w r s old new (λ c. record c { end = settle r.terms.depth (act c.end) }) all is_with is same.terms.size found
     (acted_stands old new found.conn (act found.conn.end) r.terms.depth same found.stands alike after (made.depth ∙ ap (λ (t : Terms). t.depth) all.terms))
@@ -114,12 +114,12 @@ on_way c k act way stands alike live = record {
 }
 
 -- one was established
-pub risen_stands : (old new : Connection Kept) (c : Connection Half) (depth : ℕ) → SameCourse (record old { route = record old.route { up = true } }) new → Stands old c → StandsFor new.end (settle old.end.course.depth (comes_up old.route.link c.end)) → old.end.course.depth ≡ depth → Stands new (record c { route = record c.route { up = true }; end = settle depth (comes_up c.route.link c.end) })
+pub risen_stands : (old new : Connection Kept) (c : Connection Half) (depth : ℕ) → SameCourse (record old { route = record old.route { up = true } }) new → Stands old c → Represents new.end (settle old.end.course.depth (comes_up old.route.link c.end)) → old.end.course.depth ≡ depth → Stands new (record c { route = record c.route { up = true }; end = settle depth (comes_up c.route.link c.end) })
 risen_stands old new c depth same stands after is = record {
   route = same.route ∙ ap (λ (q : Route). let risen : Route = record q { up = true } in risen) stands.route;
   up = settle_up depth (comes_up c.route.link c.end);
   link = λ up. settle_link depth (comes_up c.route.link c.end);
-  end = subst (λ d. StandsFor new.end (settle d (comes_up c.route.link c.end))) is (subst (λ (q : Route). StandsFor new.end (settle old.end.course.depth (comes_up q.link c.end))) stands.route after);
+  end = subst (λ d. Represents new.end (settle d (comes_up c.route.link c.end))) is (subst (λ (q : Route). Represents new.end (settle old.end.course.depth (comes_up q.link c.end))) stands.route after);
 }
 
 -- one has learnt of its peer
@@ -147,7 +147,7 @@ abbrev plain_begun : Records Half → LinkId → Element → List LinkId → Con
 plain_begun r link element live = record { route = new_route link element (r.tokens + 1); end = record (fresh r.terms.number) { live = live } }
 
 -- one has begun
-pub begun_stands : (v w : Records Kept) (r : Records Half) (s : ℕ) (link : LinkId) (element : Element) (live : List LinkId) (k : Connection Kept) → AllStand v r → w.terms ≡ v.terms → w.tokens ≡ v.tokens + 1 → w.spare + 1 ≡ v.spare → w.by_socket ≡ set v.by_socket s (Some k) → s < length v.by_socket → k.route ≡ new_route link element (v.tokens + 1) → k.end.size ≡ v.terms.size → StandsFor k.end (fresh v.terms.number) → AllStand w (begins s link element live r)
+pub begun_stands : (v w : Records Kept) (r : Records Half) (s : ℕ) (link : LinkId) (element : Element) (live : List LinkId) (k : Connection Kept) → AllStand v r → w.terms ≡ v.terms → w.tokens ≡ v.tokens + 1 → w.spare + 1 ≡ v.spare → w.by_socket ≡ set v.by_socket s (Some k) → s < length v.by_socket → k.route ≡ new_route link element (v.tokens + 1) → k.end.size ≡ v.terms.size → Represents k.end (fresh v.terms.number) → AllStand w (begins s link element live r)
 begun_stands v w r s link element live k all terms tokens spare by_socket within route size end = record {
   terms = terms ∙ all.terms;
   tokens = tokens ∙ ap (λ n. n + 1) all.tokens;
@@ -163,5 +163,5 @@ begun_stands v w r s link element live k all terms tokens spare by_socket within
       route = route ∙ ap (λ n. new_route link element (n + 1)) all.tokens;
       up = refl;
       link = λ up. absurd (true≢false (sym up));
-      end = subst (λ (q : Terms). StandsFor k.end (record (fresh q.number) { live = live })) all.terms end;
+      end = subst (λ (q : Terms). Represents k.end (record (fresh q.number) { live = live })) all.terms end;
     }

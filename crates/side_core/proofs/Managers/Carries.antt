@@ -30,7 +30,7 @@ use Rattle.smc_num.specs.Names.{head}
 use Rattle.side_core.specs.declared.route.Route.{Route}
 use Rattle.side_core.specs.Records.{Connection, Records, Stands, StandsAt, AllStand, IsSized, conn_at, has_token, holder, aimer}
 use Rattle.side_core.specs.Desk.{Desk, made_on, IsConfirmLink, IsPendingFor}
-use Rattle.side_core.specs.Manager.{Manager, StandsFor, no_hand, state_at}
+use Rattle.side_core.specs.Manager.{Manager, Represents, no_hand, state_at}
 use Rattle.side_core.specs.Taking.{IsOffer, MayHear, MayLend, MayTake}
 use Rattle.side_core.specs.Acting.{IsSound, IsSoundAt, IsWaitingFor, MayConfirm, MayWrite, buffer_of}
 use Rattle.side_core.specs.Comings.{Arrives, ArrivesAt, MayArriveAt, CompletesAt, MayCompleteAt, IsGoing, IsGoingAt}
@@ -39,7 +39,7 @@ use Rattle.side_core.proofs.Managers.Allowed.{aimers_same, routes_same}
 use Rattle.side_core.proofs.Elements.{alike_position}
 
 -- an offer that the peer may make
-offer_kept : (o : Offer) (link : LinkId) (v : Manager Kept) (m : Manager Half) → StandsFor v m → IsOffer o link m → IsOffer o link v
+offer_kept : (o : Offer) (link : LinkId) (v : Manager Kept) (m : Manager Half) → Represents v m → IsOffer o link m → IsOffer o link v
 offer_kept o link v m stands offer =
     let w = stands.works in
     let r = w.records in
@@ -54,7 +54,7 @@ offer_kept o link v m stands offer =
       new = aimers_same o.token v.records m.records w.records ∙ offer.new;
     }
 
-hear_kept : (s : ℕ) (message : ClcMessage) (link : LinkId) (v : Manager Kept) (m : Manager Half) → StandsFor v m → MayHear s message link m → MayHear s message link v
+hear_kept : (s : ℕ) (message : ClcMessage) (link : LinkId) (v : Manager Kept) (m : Manager Half) → Represents v m → MayHear s message link m → MayHear s message link v
 hear_kept s (Proposal p) link v m stands hears = tt
 hear_kept s (Accept o) link v m stands hears =
     let w = stands.works in
@@ -64,14 +64,14 @@ hear_kept s (Confirm o) link v m stands hears =
     (offer_kept o link v m stands hears.0, ap (λ q. option_map (λ (r : Route). r.link) q) (routes_same s v.records m.records w.records) ∙ hears.1)
 hear_kept s (Decline r) link v m stands hears = tt
 
-lend_kept : (message : ClcMessage) (v : Manager Kept) (m : Manager Half) → StandsFor v m → MayLend message m → MayLend message v
+lend_kept : (message : ClcMessage) (v : Manager Kept) (m : Manager Half) → Represents v m → MayLend message m → MayLend message v
 lend_kept (Proposal p) v m stands lend = let w = stands.works in let r = w.records in subst (λ k. k < length v.records.by_socket) (sym r.tokens) (subst (λ k. m.records.tokens < k) (sym r.sockets) lend)
 lend_kept (Accept o) v m stands lend = let w = stands.works in let r = w.records in subst (λ k. k < length v.records.by_socket) (sym r.tokens) (subst (λ k. m.records.tokens < k) (sym r.sockets) lend)
 lend_kept (Confirm o) v m stands lend = tt
 lend_kept (Decline r) v m stands lend = tt
 
 -- a CLC message may be taken
-pub take_kept : (s : ℕ) (message : ClcMessage) (link : LinkId) (paths : List Bool) (v : Manager Kept) (m : Manager Half) → StandsFor v m → MayTake s message link paths m → MayTake s message link paths v
+pub take_kept : (s : ℕ) (message : ClcMessage) (link : LinkId) (paths : List Bool) (v : Manager Kept) (m : Manager Half) → Represents v m → MayTake s message link paths m → MayTake s message link paths v
 take_kept s message link paths v m stands may =
     let w = stands.works in
     record {
@@ -111,24 +111,24 @@ sound_by size (Some k) None st h = absurd st
 sound_by size (Some k) (Some c) st h = sound_one size k c st h
 
 -- an end is sound
-pub sound_kept : (s : ℕ) (v : Manager Kept) (m : Manager Half) → StandsFor v m → IsSoundPlain m.records.terms.size (conn_at s m.records) → IsSoundAt v.records.terms.size (conn_at s v.records)
+pub sound_kept : (s : ℕ) (v : Manager Kept) (m : Manager Half) → Represents v m → IsSoundPlain m.records.terms.size (conn_at s m.records) → IsSoundAt v.records.terms.size (conn_at s v.records)
 sound_kept s v m stands h =
     let w = stands.works in
     let r = w.records in
     subst (λ (t : Terms). IsSoundAt t.size (conn_at s v.records)) (sym r.terms) (sound_by m.records.terms.size (conn_at s v.records) (conn_at s m.records) (r.each s) h)
 
 -- that of the end in first contact
-pub first_sound_kept : (v : Manager Kept) (m : Manager Half) → StandsFor v m → IsSoundPlain m.records.terms.size (conn_at m.desk.first m.records) → IsSoundAt v.records.terms.size (conn_at v.desk.first v.records)
+pub first_sound_kept : (v : Manager Kept) (m : Manager Half) → Represents v m → IsSoundPlain m.records.terms.size (conn_at m.desk.first m.records) → IsSoundAt v.records.terms.size (conn_at v.desk.first v.records)
 first_sound_kept v m stands h =
     let w = stands.works in
     subst (λ (d : Desk). IsSoundAt v.records.terms.size (conn_at d.first v.records)) (sym w.desk) (sound_kept m.desk.first v m stands h)
 
 -- the state of an end
-pub state_kept : (s : ℕ) (v : Manager Kept) (m : Manager Half) → StandsFor v m → state_at s v ≡ state_at s m
+pub state_kept : (s : ℕ) (v : Manager Kept) (m : Manager Half) → Represents v m → state_at s v ≡ state_at s m
 state_kept s v m stands = ap (λ (hands : List Hand). (slice_index_or hands s no_hand).state) stands.hands
 
 -- a link may be made
-pub make_kept : (link : LinkId) (v : Manager Kept) (m : Manager Half) → StandsFor v m → CanMake link m.desk → CanMake link v.desk
+pub make_kept : (link : LinkId) (v : Manager Kept) (m : Manager Half) → Represents v m → CanMake link m.desk → CanMake link v.desk
 make_kept link v m stands can = let w = stands.works in subst (λ (d : Desk). CanMake link d) (sym w.desk) can
 
 -- that a message confirms a link in first contact, with a reply or none
@@ -142,11 +142,11 @@ pub record Confirms (reply : Bool) (message : LlcMessage) (view : LinkView) (lin
   pub waits : state_at m.desk.first m ≡ WaitsLink
 
 -- what it makes a manager do
-pub confirm_step : (reply : Bool) (message : LlcMessage) (view : LinkView) (link : LinkId) (v : Manager Kept) (m : Manager Half) → StandsFor v m → Confirms reply message view link m → flow_step v.desk.side v.desk.flow message view link.slot true ≡ Live reply true
+pub confirm_step : (reply : Bool) (message : LlcMessage) (view : LinkView) (link : LinkId) (v : Manager Kept) (m : Manager Half) → Represents v m → Confirms reply message view link m → flow_step v.desk.side v.desk.flow message view link.slot true ≡ Live reply true
 confirm_step reply message view link v m stands c = let w = stands.works in ap (λ (d : Desk). flow_step d.side d.flow message view link.slot true) w.desk ∙ c.step
 
 -- it may land
-pub confirm_kept : (reply : Bool) (message : LlcMessage) (view : LinkView) (link : LinkId) (v : Manager Kept) (m : Manager Half) → StandsFor v m → Confirms reply message view link m → MayConfirm message view link v
+pub confirm_kept : (reply : Bool) (message : LlcMessage) (view : LinkView) (link : LinkId) (v : Manager Kept) (m : Manager Half) → Represents v m → Confirms reply message view link m → MayConfirm message view link v
 confirm_kept reply message view link v m stands c =
     let w = stands.works in
     let step = confirm_step reply message view link v m stands c in
@@ -160,7 +160,7 @@ confirm_kept reply message view link v m stands c =
     }
 
 -- a write may land
-pub write_kept : (link : LinkId) (key address len : ℕ) (v : Manager Kept) (m : Manager Half) → StandsFor v m → MayWrite link key address len m → MayWrite link key address len v
+pub write_kept : (link : LinkId) (key address len : ℕ) (v : Manager Kept) (m : Manager Half) → Represents v m → MayWrite link key address len m → MayWrite link key address len v
 write_kept link key address len v m stands may =
     let w = stands.works in
     record {
@@ -181,7 +181,7 @@ beside_by None (Some d) c st e = absurd st
 beside_by (Some k) None c st e = absurd st
 beside_by (Some k) (Some d) c st e = record { kept = k; kept_is = refl; stands = subst (λ (q : Option (Connection Half)). StandsAt (Some k) q) e st }
 
-beside : (s : ℕ) (v : Manager Kept) (m : Manager Half) (c : Connection Half) → StandsFor v m → conn_at s m.records ≡ Some c → Beside (conn_at s v.records) c
+beside : (s : ℕ) (v : Manager Kept) (m : Manager Half) (c : Connection Half) → Represents v m → conn_at s m.records ≡ Some c → Beside (conn_at s v.records) c
 beside s v m c stands e = let w = stands.works in let r = w.records in beside_by (conn_at s v.records) (conn_at s m.records) c (r.each s) e
 
 held_same : (token : ℕ) (k : Option (Connection Kept)) (c : Option (Connection Half)) → StandsAt k c → has_token token k ≡ has_token token c
@@ -205,7 +205,7 @@ pub record Comes (s : ℕ) (message : CdcMessage) (sent : Sent) (c : Connection 
   pub going : is_over c.end ≡ false
   pub sound : IsSoundPlain m.records.terms.size (conn_at s m.records)
 
-module _ (s : ℕ) (message : CdcMessage) (sent : Sent) (c : Connection Half) (v : Manager Kept) (m : Manager Half) (stands : StandsFor v m) where
+module _ (s : ℕ) (message : CdcMessage) (sent : Sent) (c : Connection Half) (v : Manager Kept) (m : Manager Half) (stands : Represents v m) where
   size_is : (k : Connection Kept) → conn_at s v.records ≡ Some k → m.records.terms.size ≡ k.end.size
   size_is k e = let w = stands.works in let r = w.records in sym (subst (IsSized v.records.terms.size) e (r.sizes s) ∙ ap (λ (t : Terms). t.size) r.terms)
 
@@ -250,7 +250,7 @@ pub record Goes (s : ℕ) (message : CdcMessage) (sent : Sent) (c : Connection H
   pub oldest : head c.end.flight ≡ Some sent.snapshot
   pub sound : IsSoundPlain m.records.terms.size (conn_at s m.records)
 
-module _ (s : ℕ) (message : CdcMessage) (sent : Sent) (c : Connection Half) (v : Manager Kept) (m : Manager Half) (stands : StandsFor v m) (goes : Goes s message sent c m) where
+module _ (s : ℕ) (message : CdcMessage) (sent : Sent) (c : Connection Half) (v : Manager Kept) (m : Manager Half) (stands : Represents v m) (goes : Goes s message sent c m) where
   aimed : aimer message.token v.records ≡ Some s
   aimed = let w = stands.works in aimers_same message.token v.records m.records w.records ∙ goes.aimed
 
@@ -289,7 +289,7 @@ pub record Keeps (s token address len first : ℕ) (c : Connection Half) (o : Of
   pub from : c.end.fin.told ≤ first
   pub to : first + len ≤ length c.end.out
 
-module _ (s token address len first : ℕ) (c : Connection Half) (o : Offer) (v : Manager Kept) (m : Manager Half) (stands : StandsFor v m) (keeps : Keeps s token address len first c o m) where
+module _ (s token address len first : ℕ) (c : Connection Half) (o : Offer) (v : Manager Kept) (m : Manager Half) (stands : Represents v m) (keeps : Keeps s token address len first c o m) where
   pub going_at : IsGoingAt v.records.terms.size (conn_at s v.records) address len c.end first
   going_at =
       let b = beside s v m c stands keeps.there in

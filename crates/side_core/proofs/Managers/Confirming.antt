@@ -14,7 +14,7 @@ use Rattle.conn_end.specs.Kept.{Kept}
 use Rattle.clc_handshake.specs.Stages.{Hand}
 use Rattle.side_core.specs.Records.{conn_at}
 use Rattle.side_core.specs.Desk.{Desk, confirmed_by, IsPendingFor}
-use Rattle.side_core.specs.Manager.{Manager, Works, StandsFor, no_hand, hand_at}
+use Rattle.side_core.specs.Manager.{Manager, Works, Represents, no_hand, hand_at}
 use Rattle.side_core.specs.Acting.{IsSoundAt, MayConfirm, MayRise, IsWaitingFor, step_at, confirms_link, rises_first, hands_after}
 use Rattle.side_core.specs.Fit.{IsOneSlot, IsManager, IsFit}
 use Rattle.side_core.proofs.Managers.LinkConfirms.{confirms_fit}
@@ -22,14 +22,14 @@ use Rattle.side_core.proofs.Managers.Linking.{heard_by, heard_works, confirmed_s
 use Rattle.side_core.proofs.Managers.Managing.{rises_here}
 
 -- what may be confirmed at a manager may be at the plain one
-waiting_plain : (x : FlowStep) (v : Manager Kept) (m : Manager Half) → StandsFor v m → IsWaitingFor x v → IsWaitingFor x m
+waiting_plain : (x : FlowStep) (v : Manager Kept) (m : Manager Half) → Represents v m → IsWaitingFor x v → IsWaitingFor x m
 waiting_plain (Live reply true) v m stands waits =
     ap (λ (hs : List Hand). (slice_index_or hs m.desk.first no_hand).state) (sym stands.hands)
     ∙ ap (λ (d : Desk). (slice_index_or v.hands d.first no_hand).state) (sym stands.works.desk) ∙ waits
 waiting_plain (Live reply false) v m stands waits = tt
 waiting_plain x v m stands waits = _
 
-may_plain : (message : LlcMessage) (view : LinkView) (link : LinkId) (v : Manager Kept) (m : Manager Half) → StandsFor v m → MayConfirm message view link v → MayConfirm message view link m
+may_plain : (message : LlcMessage) (view : LinkView) (link : LinkId) (v : Manager Kept) (m : Manager Half) → Represents v m → MayConfirm message view link v → MayConfirm message view link m
 may_plain message view link v m stands may = record {
   kind = may.kind;
   slot = may.slot;
@@ -40,7 +40,7 @@ may_plain message view link v m stands may = record {
 }
 
 -- the side works on with the link live
-pub confirming_works : (message : LlcMessage) (view : LinkView) (link : LinkId) (v : Manager Kept) (d : Desk) (m : Manager Half) (step : FlowStep) → IsManager v → MayConfirm message view link v → step ≡ step_at message view link v → d ≡ confirmed_by step link.slot v.desk → StandsFor v m → Works d v.records (heard_by step link m)
+pub confirming_works : (message : LlcMessage) (view : LinkView) (link : LinkId) (v : Manager Kept) (d : Desk) (m : Manager Half) (step : FlowStep) → IsManager v → MayConfirm message view link v → step ≡ step_at message view link v → d ≡ confirmed_by step link.slot v.desk → Represents v m → Works d v.records (heard_by step link m)
 confirming_works message view link v d m step i may is after stands =
     subst (λ (e : Desk). Works e v.records (heard_by step link m)) (sym after)
     (heard_works step link v.desk v.records m may.slot (subst (λ (e : Desk). IsOneSlot e.links.known) (sym i.stands.works.desk) i.fit.slot) may.latest
@@ -52,7 +52,7 @@ first_same step slot d = refl
 
 -- for every plain manager
 pub confirmed_all : (message : LlcMessage) (view : LinkView) (link : LinkId) (v w : Manager Kept) (step : FlowStep) → IsManager v → MayConfirm message view link v → step ≡ step_at message view link v → w.desk ≡ confirmed_by step link.slot v.desk
-    → ((m : Manager Half) → Works w.desk v.records m → Works w.desk w.records (rises_first step m)) → w.hands ≡ hands_after step w.desk.first v.hands → w.regions ≡ v.regions → (m : Manager Half) → StandsFor v m → StandsFor w (confirms_link step link m)
+    → ((m : Manager Half) → Works w.desk v.records m → Works w.desk w.records (rises_first step m)) → w.hands ≡ hands_after step w.desk.first v.hands → w.regions ≡ v.regions → (m : Manager Half) → Represents v m → Represents w (confirms_link step link m)
 confirmed_all message view link v w step i may is after works hands regions m stands =
     confirmed_stands step link v w m stands (works (heard_by step link m) (confirming_works message view link v w.desk m step i may is after stands))
     (hands ∙ ap (λ n. hands_after step n v.hands) (ap (λ (d : Desk). d.first) after ∙ first_same step link.slot v.desk)) regions

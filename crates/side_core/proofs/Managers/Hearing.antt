@@ -12,7 +12,7 @@ use Rattle.smc_num.specs.Places.{rmb_at}
 use Rattle.clc_wire.specs.declared.offer.Offer.{Offer}
 use Rattle.element_ledger.specs.declared.Element.{Element}
 use Rattle.pipe_model.specs.Ends.{Half, comes_up, fresh}
-use Rattle.conn_end.specs.Kept.{Kept, StandsFor as EndStands}
+use Rattle.conn_end.specs.Kept.{Kept, Represents as EndStands}
 use Rattle.side_core.specs.declared.route.Route.{Route}
 use Rattle.side_core.specs.declared.route.Way.{Way}
 use Rattle.side_core.specs.Taking.{starts, hears}

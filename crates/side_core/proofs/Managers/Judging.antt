@@ -13,7 +13,7 @@ use Rattle.pipe_model.specs.Handshake.{verdict}
 use Rattle.conn_end.specs.Kept.{Kept}
 use Rattle.side_core.specs.Records.{Connection, conn_at}
 use Rattle.side_core.specs.Desk.{Desk, lacks_of}
-use Rattle.side_core.specs.Manager.{IsWorking, Manager, Works, StandsFor, no_hand, hand_at, state_at, with_hand}
+use Rattle.side_core.specs.Manager.{IsWorking, Manager, Works, Represents, no_hand, hand_at, state_at, with_hand}
 use Rattle.side_core.specs.Taking.{verdict_at, by_verdict, quits_from, takes_message}
 use Rattle.side_core.proofs.Elements.{by_if}
 use Rattle.side_core.specs.Taking.{MayTake}
@@ -47,7 +47,7 @@ by_beside s message link paths m (Wrong kind) = quits_beside s (conn_at s m.reco
 by_beside s message link paths m step = record { hands = refl; regions = refl }
 
 -- the verdict is the plain manager's
-pub same_verdict : (s : ℕ) (message : ClcMessage) (paths : List Bool) (v : Manager Kept) (m : Manager Half) → StandsFor v m → verdict_at s message paths v ≡ verdict_at s message paths m
+pub same_verdict : (s : ℕ) (message : ClcMessage) (paths : List Bool) (v : Manager Kept) (m : Manager Half) → Represents v m → verdict_at s message paths v ≡ verdict_at s message paths m
 same_verdict s message paths v m stands =
     ap (λ (hands : List Hand). verdict (slice_index_or hands s no_hand).raw (slice_index_or hands s no_hand).state message (lacks_of paths v.desk)) stands.hands
     ∙ ap (λ (d : Desk). verdict (hand_at s m).raw (state_at s m) message (lacks_of paths d)) stands.works.desk
@@ -57,15 +57,15 @@ abbrev pub stepped : {E : Type 0} → ℕ → ClcMessage → ClcStep → Manager
 stepped s message step m = record (hand_at s m) { state = after_step step message (state_at s m) }
 
 -- the manager after it took a message
-pub taken_stands : (s : ℕ) (message : ClcMessage) (link : LinkId) (paths : List Bool) (v w : Manager Kept) (m : Manager Half) (step : ClcStep) → StandsFor v m → step ≡ verdict_at s message paths m
-    → Works w.desk w.records (by_verdict s message link paths m step) → w.hands ≡ slice_set v.hands s (stepped s message step v) → w.regions ≡ v.regions → StandsFor w (takes_message s message link paths m)
+pub taken_stands : (s : ℕ) (message : ClcMessage) (link : LinkId) (paths : List Bool) (v w : Manager Kept) (m : Manager Half) (step : ClcStep) → Represents v m → step ≡ verdict_at s message paths m
+    → Works w.desk w.records (by_verdict s message link paths m step) → w.hands ≡ slice_set v.hands s (stepped s message step v) → w.regions ≡ v.regions → Represents w (takes_message s message link paths m)
 taken_stands s message link paths v w m step stands is works hands regions =
-    subst (λ (x : ClcStep). StandsFor w (with_hand s (stepped s message x m) (by_verdict s message link paths m x))) is stands_then
+    subst (λ (x : ClcStep). Represents w (with_hand s (stepped s message x m) (by_verdict s message link paths m x))) is stands_then
   where
     beside : IsBeside m (by_verdict s message link paths m step)
     beside = by_beside s message link paths m step
 
-    stands_then : StandsFor w (with_hand s (stepped s message step m) (by_verdict s message link paths m step))
+    stands_then : Represents w (with_hand s (stepped s message step m) (by_verdict s message link paths m step))
     stands_then = record {
       works = works_hand s (stepped s message step m) w.desk w.records (by_verdict s message link paths m step) works;
       hands = hands

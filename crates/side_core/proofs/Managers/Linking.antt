@@ -14,7 +14,7 @@ use Rattle.pipe_model.specs.Ends.{Half, with_link, meets_fate}
 use Rattle.conn_end.specs.Kept.{Kept}
 use Rattle.side_core.specs.Records.{Connection, Records, StandsAt, conn_at}
 use Rattle.side_core.specs.Desk.{Desk, makes_link, goes_live, confirmed_by, IsPendingFor}
-use Rattle.side_core.specs.Manager.{Manager, Works, StandsFor, IsTiedAt}
+use Rattle.side_core.specs.Manager.{Manager, Works, Represents, IsTiedAt}
 use Rattle.side_core.specs.Acting.{link_lives, confirms_link, confirming_posts, rises_first, hands_after, posts_after}
 use Rattle.side_core.specs.Landing.{CanMake}
 use Rattle.side_core.specs.Taking.{with_desk}
@@ -110,7 +110,7 @@ heard_works (Live reply first) link d r m slot one latest pending works = lives_
 heard_works step link d r m slot one latest pending works = works
 
 -- the manager after the step
-pub confirmed_stands : (step : FlowStep) (link : LinkId) (v w : Manager Kept) (m : Manager Half) → StandsFor v m → Works w.desk w.records (rises_first step (heard_by step link m)) → w.hands ≡ hands_after step v.desk.first v.hands → w.regions ≡ v.regions → StandsFor w (confirms_link step link m)
+pub confirmed_stands : (step : FlowStep) (link : LinkId) (v w : Manager Kept) (m : Manager Half) → Represents v m → Works w.desk w.records (rises_first step (heard_by step link m)) → w.hands ≡ hands_after step v.desk.first v.hands → w.regions ≡ v.regions → Represents w (confirms_link step link m)
 confirmed_stands (Live reply true) link v w m stands works hands regions = record {
   works = record { desk = works.desk; records = works.records; tied = works.tied };
   hands = hands ∙ ap (λ hs. hands_after (Live reply true) v.desk.first hs) stands.hands ∙ ap (λ (d : Desk). hands_after (Live reply true) d.first m.hands) stands.works.desk;

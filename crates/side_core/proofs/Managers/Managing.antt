@@ -14,7 +14,7 @@ use Rattle.conn_end.specs.Kept.{Kept}
 use Rattle.side_core.specs.declared.route.Route.{Route}
 use Rattle.side_core.specs.Records.{Connection, IsSmall, conn_at, route_at}
 use Rattle.side_core.specs.Desk.{Desk, made_on}
-use Rattle.side_core.specs.Manager.{Manager, StandsFor, no_hand, state_at}
+use Rattle.side_core.specs.Manager.{Manager, Represents, no_hand, state_at}
 use Rattle.side_core.specs.Acting.{IsSoundAt, IsRising}
 use Rattle.pipe_model.specs.Replies.{expects}
 use Rattle.side_core.specs.Taking.{MayTake, MayLend, MayHear, IsOffer, IsNext}
@@ -27,10 +27,10 @@ small_of size None sound = tt
 small_of size (Some k) sound = (sound.accepted, sound.number)
 
 -- the plain manager has the same handshakes and routes
-pub same_state : (s : ℕ) (v : Manager Kept) (m : Manager Half) → StandsFor v m → state_at s v ≡ state_at s m
+pub same_state : (s : ℕ) (v : Manager Kept) (m : Manager Half) → Represents v m → state_at s v ≡ state_at s m
 same_state s v m stands = ap (λ (hands : List Hand). (slice_index_or hands s no_hand).state) stands.hands
 
-pub same_route : (s : ℕ) (v : Manager Kept) (m : Manager Half) → StandsFor v m → route_at s v.records ≡ route_at s m.records
+pub same_route : (s : ℕ) (v : Manager Kept) (m : Manager Half) → Represents v m → route_at s v.records ≡ route_at s m.records
 same_route s v m stands = routes_same s v.records m.records stands.works.records
 
 -- what the state of an end says of its connection
@@ -85,7 +85,7 @@ rises_here s v hand i waits here sound = record {
 }
 
 -- what may come to a manager may come to the plain one
-offer_plain : (o : Offer) (link : LinkId) (v : Manager Kept) (m : Manager Half) → StandsFor v m → IsOffer o link v → IsOffer o link m
+offer_plain : (o : Offer) (link : LinkId) (v : Manager Kept) (m : Manager Half) → Represents v m → IsOffer o link v → IsOffer o link m
 offer_plain o link v m stands offer = record {
   slot = offer.slot;
   group = offer.group;
@@ -97,22 +97,22 @@ offer_plain o link v m stands offer = record {
   new = sym (aimers_same o.token v.records m.records stands.works.records) ∙ offer.new;
 }
 
-next_plain : (o : Offer) (link : LinkId) (v : Manager Kept) (m : Manager Half) → StandsFor v m → IsNext o link v → IsNext o link m
+next_plain : (o : Offer) (link : LinkId) (v : Manager Kept) (m : Manager Half) → Represents v m → IsNext o link v → IsNext o link m
 next_plain o link v m stands next = subst (λ (d : Desk). (o.first && (d.group == 0)) ≡ true → link.incarnation ≡ made_on link.slot d + 1) stands.works.desk next
 
-hear_plain : (s : ℕ) (message : ClcMessage) (link : LinkId) (v : Manager Kept) (m : Manager Half) → StandsFor v m → MayHear s message link v → MayHear s message link m
+hear_plain : (s : ℕ) (message : ClcMessage) (link : LinkId) (v : Manager Kept) (m : Manager Half) → Represents v m → MayHear s message link v → MayHear s message link m
 hear_plain s (Proposal p) link v m stands hears = tt
 hear_plain s (Accept o) link v m stands hears = (offer_plain o link v m stands hears.0, next_plain o link v m stands hears.1)
 hear_plain s (Confirm o) link v m stands hears = (offer_plain o link v m stands hears.0, ap (option_map (λ (r : Route). r.link)) (sym (same_route s v m stands)) ∙ hears.1)
 hear_plain s (Decline r) link v m stands hears = tt
 
-lend_plain : (message : ClcMessage) (v : Manager Kept) (m : Manager Half) → StandsFor v m → MayLend message v → MayLend message m
+lend_plain : (message : ClcMessage) (v : Manager Kept) (m : Manager Half) → Represents v m → MayLend message v → MayLend message m
 lend_plain (Proposal p) v m stands lend = subst (λ n. n < length m.records.by_socket) stands.works.records.tokens (subst (λ n. v.records.tokens < n) stands.works.records.sockets lend)
 lend_plain (Accept o) v m stands lend = subst (λ n. n < length m.records.by_socket) stands.works.records.tokens (subst (λ n. v.records.tokens < n) stands.works.records.sockets lend)
 lend_plain (Confirm o) v m stands lend = tt
 lend_plain (Decline r) v m stands lend = tt
 
-pub take_plain : (s : ℕ) (message : ClcMessage) (link : LinkId) (paths : List Bool) (v : Manager Kept) (m : Manager Half) → StandsFor v m → MayTake s message link paths v → MayTake s message link paths m
+pub take_plain : (s : ℕ) (message : ClcMessage) (link : LinkId) (paths : List Bool) (v : Manager Kept) (m : Manager Half) → Represents v m → MayTake s message link paths v → MayTake s message link paths m
 take_plain s message link paths v m stands may = record {
   socket = subst (λ (hands : List Hand). s < length hands) stands.hands may.socket;
   waits = ap expects (sym (same_state s v m stands)) ∙ may.waits;

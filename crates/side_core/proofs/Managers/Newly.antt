@@ -18,7 +18,7 @@ use Rattle.side_core.specs.Inside.{made_with}
 use Rattle.side_core.specs.Records.{Records, AllStand, no_records}
 use Rattle.side_core.specs.Setups.{IsSet}
 use Rattle.side_core.specs.Desk.{Desk, new_desk}
-use Rattle.side_core.specs.Manager.{Manager, StandsFor, IsTiedAt, no_hand, new_manager}
+use Rattle.side_core.specs.Manager.{Manager, Represents, IsTiedAt, no_hand, new_manager}
 use Rattle.side_core.specs.Fit.{IsManager}
 use Rattle.side_core.proofs.Managers.News.{new_fit, all_same}
 
@@ -62,7 +62,7 @@ newly {E = E} x setup desk hands records regions size elements new none =
 
 -- and stand for the plain one
 pub newly_stands : (x : Side) (setup : Setup) (v : Manager Kept) (size elements : ℕ) → AreNew x setup v.desk v.hands v.regions size elements
-    → AllStand v.records (no_records (made_with size setup.depth setup.number) setup.sockets elements) → StandsFor v (new_manager {E = Half} x setup)
+    → AllStand v.records (no_records (made_with size setup.depth setup.number) setup.sockets elements) → Represents v (new_manager {E = Half} x setup)
 newly_stands x setup v size elements new all = record {
   works = record {
     desk = new.desk_is;

@@ -11,7 +11,7 @@ use Rattle.pipe_model.specs.Ends.{Half}
 use Rattle.conn_end.specs.Kept.{Kept}
 use Rattle.side_core.specs.Records.{Connection, Records, StandsAt, conn_at, is_aimed_at, aimer}
 use Rattle.side_core.specs.Comings.{MayArriveAt, ArrivesAt, MayCompleteAt, CompletesAt}
-use Rattle.side_core.specs.Manager.{Manager, StandsFor}
+use Rattle.side_core.specs.Manager.{Manager, Represents}
 use Rattle.side_core.specs.Acting.{buffer_of, bytes_land}
 use Rattle.side_core.specs.Fit.{IsManager}
 use Rattle.side_core.proofs.Sockets.Acts.{bytes_fit}
@@ -60,7 +60,7 @@ pub aimer_there : (token s : ℕ) (r : Records Kept) → aimer token r ≡ Some 
 aimer_there token s r is = aimed_there token (conn_at s r) (position-Some (is_aimed_at token) r.by_socket s None is).1
 
 -- bytes land in the buffers of both
-pub bytes_stand : (rmb address : ℕ) (bytes : List ℕ) (v : Manager Kept) (m : Manager Half) → StandsFor v m → StandsFor (bytes_land rmb address bytes v) (bytes_land rmb address bytes m)
+pub bytes_stand : (rmb address : ℕ) (bytes : List ℕ) (v : Manager Kept) (m : Manager Half) → Represents v m → Represents (bytes_land rmb address bytes v) (bytes_land rmb address bytes m)
 bytes_stand rmb address bytes v m stands = record {
   works = record { desk = stands.works.desk; records = stands.works.records; tied = stands.works.tied };
   hands = stands.hands;

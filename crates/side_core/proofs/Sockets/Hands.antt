@@ -7,7 +7,7 @@ use Rattle.pipe_model.specs.Ends.{Half}
 use Rattle.conn_end.specs.Kept.{Kept}
 use Rattle.side_core.specs.Records.{Records}
 use Rattle.side_core.specs.Desk.{Desk}
-use Rattle.side_core.specs.Manager.{Manager, Works, StandsFor, no_hand, hand_of, hand_in, with_hand}
+use Rattle.side_core.specs.Manager.{Manager, Works, Represents, no_hand, hand_of, hand_in, with_hand}
 use Rattle.side_core.specs.Fit.{IsFit, IsManager}
 
 -- one of them becomes another one
@@ -32,7 +32,7 @@ pub works_hand : (s : ℕ) (h : Hand) (d : Desk) (r : Records Kept) (m : Manager
 works_hand s h d r m works = record { desk = works.desk; records = works.records; tied = works.tied }
 
 -- a manager with other handshakes
-pub handed : (s : ℕ) (h : Hand) (v : Manager Kept) (hands : List (Option Hand)) (m : Manager Half) → v.hands ≡ map hand_of hands → StandsFor v m → StandsFor (record v { hands = map hand_of (slice_set hands s (Some h)) }) (with_hand s h m)
+pub handed : (s : ℕ) (h : Hand) (v : Manager Kept) (hands : List (Option Hand)) (m : Manager Half) → v.hands ≡ map hand_of hands → Represents v m → Represents (record v { hands = map hand_of (slice_set hands s (Some h)) }) (with_hand s h m)
 handed s h v hands m is stands = record {
   works = works_hand s h v.desk v.records m stands.works;
   hands = hands_set hands s h ∙ ap (λ hs. slice_set hs s h) (sym is ∙ stands.hands);

@@ -1,7 +1,7 @@
 use Rattle.std.proofs.Common.{◌≡◌, ◌∙◌, ℕ, ◌+◌, ◌≤◌, List, length, drop, sym, ap, subst, arith, rules}
 use Rattle.circular_buffer.specs.Buffer.{Buffer, buffer}
 use Rattle.cdc_ring.specs.Rings.{completes}
-use Rattle.cdc_ring.specs.Kept.{Kept, IsKept, StandsFor}
+use Rattle.cdc_ring.specs.Kept.{Kept, IsKept, Represents}
 use Rattle.cdc_ring.proofs.Standing.{kept-completed, completed_more, cursor_inside, cursor_rounds}
 use Rattle.cdc_ring.proofs.SendRing.complete.Goals as goal
 
@@ -11,7 +11,7 @@ invariant_of-self c =
     let k : Kept = record { size = r.size; completed = r.completed; bytes = r.bytes.items; marks = r.marks.items; acked = r.acked; unread = r.unread } in
     let n = c.ahead_of-count.result in
     let q = c.requires in
-    let stands : StandsFor k q.ring = subst (λ v. StandsFor v q.ring) (sym c.self.view_is) q.stands in
+    let stands : Represents k q.ring = subst (λ v. Represents v q.ring) (sym c.self.view_is) q.stands in
     let moved : q.ring.completed + n ≡ q.place = search rules in
     let within : n ≤ length k.bytes = omega (arith, moved, q.to, ap length stands.bytes) in
     let rest : c.truncate_front.new.self ≡ buffer (drop n k.bytes) r.bytes.capacity = search rules in
@@ -26,9 +26,9 @@ returns c = λ ring place stands spelled from to.
     let r = c.self.inside in
     let k : Kept = record { size = r.size; completed = r.completed; bytes = r.bytes.items; marks = r.marks.items; acked = r.acked; unread = r.unread } in
     let n = c.ahead_of-count.result in
-    let here : StandsFor k ring = subst (λ v. StandsFor v ring) (sym c.self.view_is) stands in
+    let here : Represents k ring = subst (λ v. Represents v ring) (sym c.self.view_is) stands in
     let moved : ring.completed + n ≡ place = search rules in
     let within : n ≤ length k.bytes = omega (arith, moved, to, ap length here.bytes) in
     let rest : c.truncate_front.new.self ≡ buffer (drop n k.bytes) r.bytes.capacity = search rules in
-    subst (λ (b : Buffer ℕ). StandsFor (record k { completed = c.args.cursor; bytes = b.items; marks = c.marks_past-self-inside.result.items }) (completes place ring)) (sym rest)
-    (subst (λ (ms : List ℕ). StandsFor (record k { completed = c.args.cursor; bytes = drop n k.bytes; marks = ms }) (completes place ring)) (sym c.marks_past-self-inside.ensures) (completed_more k n c.args.cursor c.self.invariant.1 ring place here spelled moved to))
+    subst (λ (b : Buffer ℕ). Represents (record k { completed = c.args.cursor; bytes = b.items; marks = c.marks_past-self-inside.result.items }) (completes place ring)) (sym rest)
+    (subst (λ (ms : List ℕ). Represents (record k { completed = c.args.cursor; bytes = drop n k.bytes; marks = ms }) (completes place ring)) (sym c.marks_past-self-inside.ensures) (completed_more k n c.args.cursor c.self.invariant.1 ring place here spelled moved to))

@@ -1,7 +1,7 @@
 use Rattle.std.proofs.Common.{◌≡◌, ℕ, ◌+◌, ◌-◌, ◌*◌, length, min, sym, subst, arith, rules}
 use Rattle.cdc_ring.specs.declared.Piece.{Piece}
 use Rattle.cdc_ring.specs.Rings.{last_from, front_piece, back_piece}
-use Rattle.cdc_ring.specs.Kept.{Kept, StandsFor}
+use Rattle.cdc_ring.specs.Kept.{Kept, Represents}
 use Rattle.smc_num.proofs.Rounds.{cursor_of-place}
 use Rattle.cdc_ring.proofs.Rising.{last-below}
 use Rattle.cdc_ring.proofs.Standing.{pieces_kept, cursor_inside}
@@ -32,4 +32,4 @@ returns c = λ ring stands.
     let len : c.len.result ≡ length k.bytes = search rules in
     let front : c.min-front.result ≡ min (length k.bytes - c.last_mark-posted.result) (k.size - c.forward-place.result.count) = search rules in
     subst (λ (n : ℕ). ◌≡◌ {A = Piece × Piece} (record { place = c.forward-place.result.count; len = c.min-front.result }, record { place = 0; len = n - c.last_mark-posted.result - c.min-front.result }) (front_piece ring, back_piece ring)) (sym len)
-    (pieces_kept k c.last_mark-posted.result c.min-front.result c.forward-place.result low c.forward-place.ensures front ring (subst (λ v. StandsFor v ring) (sym c.self.view_is) stands))
+    (pieces_kept k c.last_mark-posted.result c.min-front.result c.forward-place.result low c.forward-place.ensures front ring (subst (λ v. Represents v ring) (sym c.self.view_is) stands))

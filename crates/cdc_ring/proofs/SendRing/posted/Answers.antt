@@ -1,6 +1,6 @@
 use Rattle.std.proofs.Common.{◌≡◌, ◌∙◌, ℕ, List, [], ◌∷◌, ◌++◌, length, sym, ap, subst, arith, rules}
 use Rattle.cdc_ring.specs.Rings.{last_from, posts}
-use Rattle.cdc_ring.specs.Kept.{Kept, IsKept, StandsFor}
+use Rattle.cdc_ring.specs.Kept.{Kept, IsKept, Represents}
 use Rattle.cdc_ring.proofs.Standing.{kept-posted, posted_more, posted_nothing}
 use Rattle.cdc_ring.proofs.SendRing.posted.Goals as goal
 
@@ -20,7 +20,7 @@ returns-then-last_mark-held c = λ ring stands.
     let low : c.last_mark.result ≡ last_from 0 k.marks = search rules in
     let len : c.len-held.result ≡ length k.bytes = search rules in
     let marks : c.push.new.self.items ≡ k.marks ++ length k.bytes ∷ [] = c.push.ensures.items ∙ ap (λ n. k.marks ++ n ∷ []) len in
-    subst (λ (ms : List ℕ). StandsFor (record k { marks = ms }) (posts ring)) (sym marks) (posted_more k c.self.invariant.1 (omega (arith, low, len, c.if-last_mark-held.true)) ring (subst (λ v. StandsFor v ring) (sym c.self.view_is) stands))
+    subst (λ (ms : List ℕ). Represents (record k { marks = ms }) (posts ring)) (sym marks) (posted_more k c.self.invariant.1 (omega (arith, low, len, c.if-last_mark-held.true)) ring (subst (λ v. Represents v ring) (sym c.self.view_is) stands))
 
 pub returns-else-last_mark-held : goal.returns-else-last_mark-held
 returns-else-last_mark-held c = λ ring stands.
@@ -28,4 +28,4 @@ returns-else-last_mark-held c = λ ring stands.
     let k : Kept = record { size = r.size; completed = r.completed; bytes = r.bytes.items; marks = r.marks.items; acked = r.acked; unread = r.unread } in
     let low : c.last_mark.result ≡ last_from 0 k.marks = search rules in
     let len : c.len-held.result ≡ length k.bytes = search rules in
-    subst (λ v. StandsFor v (posts ring)) c.self.view_is (posted_nothing k (omega (arith, low, len, c.if-last_mark-held.false)) ring (subst (λ v. StandsFor v ring) (sym c.self.view_is) stands))
+    subst (λ v. Represents v (posts ring)) c.self.view_is (posted_nothing k (omega (arith, low, len, c.if-last_mark-held.false)) ring (subst (λ v. Represents v ring) (sym c.self.view_is) stands))

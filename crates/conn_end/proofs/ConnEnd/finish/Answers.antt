@@ -1,5 +1,5 @@
 use Rattle.std.proofs.Common.{◌∙◌, [], sym, ap, subst}
-use Rattle.conn_end.specs.Kept.{Kept, Course, at_course, StandsFor}
+use Rattle.conn_end.specs.Kept.{Kept, Course, at_course, Represents}
 use Rattle.pipe_model.specs.Ends.{Half}
 use Rattle.pipe_model.specs.Ends.{fresh}
 use Rattle.pipe_model.specs.Closing.{cause_of}
@@ -19,7 +19,7 @@ invariant_of-self c =
 pub returns-clause-end : goal.returns-clause-end
 returns-clause-end c = λ h stands.
     let x = c.self.inside in
-    let s : Stands x.size x.ring x.accepted x.course h = subst (λ (v : Kept). StandsFor v h) (sym c.self.view_is) stands in
+    let s : Stands x.size x.ring x.accepted x.course h = subst (λ (v : Kept). Represents v h) (sym c.self.view_is) stands in
     after x.size x.ring x.accepted x.course c.finish.new.self h finishes s
     (whole_phase x.size x.ring x.accepted x.course c.finish.new.self c.self.invariant c.finish.ensures.rest (λ o. open_before_finish x.course.phase (at_course x.course (fresh 1)) (ap (λ (q : Half). is_shut q.phase) (sym (c.finish.ensures.end (fresh 1))) ∙ o)))
     (ap (λ (d : Course). d.fin) c.finish.ensures.rest) (c.finish.ensures.end h)
@@ -27,7 +27,7 @@ returns-clause-end c = λ h stands.
 pub returns-clause-told : goal.returns-clause-told
 returns-clause-told c = λ h.
     let x = c.self.inside in
-    subst (λ (v : Kept). StandsFor v h → Answers v.size Finishes h c.told-reply.result) c.self.view_is (λ (s : Stands x.size x.ring x.accepted x.course h).
+    subst (λ (v : Kept). Represents v h → Answers v.size Finishes h c.told-reply.result) c.self.view_is (λ (s : Stands x.size x.ring x.accepted x.course h).
     answers x.size Finishes c.told-reply.result x.ring x.accepted x.course h s
     (λ peer_out. c.told-reply.ensures x.course.read peer_out ∙ finish_is x.size (at_course x.course h) peer_out (cause_of x.course.phase))
     (step_placed x.size x.course.read c.told-reply.result Finish (cause_of x.course.phase) x.course.phase (c.told-reply.ensures x.course.read [])))

@@ -1,5 +1,5 @@
 use Rattle.std.proofs.Common.{◌∙◌, sym, ap, subst}
-use Rattle.conn_end.specs.Kept.{Kept, Course, StandsFor}
+use Rattle.conn_end.specs.Kept.{Kept, Course, Represents}
 use Rattle.pipe_model.specs.Ends.{Half}
 use Rattle.pipe_model.specs.Ends.{fresh, strikes}
 use Rattle.pipe_model.specs.Parts.{is_shut}
@@ -18,7 +18,7 @@ returns-in_default c =
     let x = c.self.inside in record {
       group = λ h stands is. absurd (c.in_default.not-NoLiveLink h.link.group is);
       other = λ h stands no.
-          let s : Stands x.size x.ring x.accepted x.course h = subst (λ (v : Kept). StandsFor v h) (sym c.self.view_is) stands in
+          let s : Stands x.size x.ring x.accepted x.course h = subst (λ (v : Kept). Represents v h) (sym c.self.view_is) stands in
           after x.size x.ring x.accepted x.course c.strike.new.self h (strikes c.args.cause) s (invariant_of-self-in_default c) (ap (λ (d : Course). d.fin) c.strike.ensures.rest) (c.strike.ensures.end h);
       terms = record {
         size = ap (λ (v : Kept). v.size) c.self.view_is;

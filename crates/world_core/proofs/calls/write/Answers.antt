@@ -5,7 +5,7 @@ use Rattle.pipe_model.specs.Fallback.{fallen_write}
 use Rattle.pipe_model.specs.declared.closing.Phase.TheVariants.{Open}
 use Rattle.tcp_pipe.specs.Streams.{free}
 use Rattle.side_core.specs.Landing.{told_at as told_by_end}
-use Rattle.side_core.specs.Manager.{Manager, StandsFor}
+use Rattle.side_core.specs.Manager.{Manager, Represents}
 use Rattle.world_core.specs.Sending.{outflow_at}
 use Rattle.world_core.specs.Calling.{MayCall, IsCalledAt}
 use Rattle.world_core.specs.Streams.{takes_in}
@@ -28,8 +28,8 @@ pub returns-in-Up : goal.returns-in-Up
 returns-in-Up c = λ theirs hosts.
     let r = c.requires in
     write-up c.args.moment c.args.end c.args.at c.args.len c.args.own.now theirs hosts r.few r.socket r.within c.write_up.result c.write_up.new.own c.write_up.new.posts.items (sym c.end_state.ensures ∙ c.in-Up.is)
-    (subst (λ (bytes : List ℕ). (m : Manager Half) → StandsFor c.args.own.now.core m → Plain c.write_up.result ≡ told_by_end c.args.end.s (Writes bytes) [] m) c.bytes_of-bytes.ensures c.write_up.ensures.told)
-    (subst (λ (bytes : List ℕ). (m : Manager Half) → StandsFor c.args.own.now.core m → IsCalledAt c.args.end.s (Writes bytes) (length c.args.moment.history.now + 1) m c.args.own.now c.write_up.new.own c.write_up.new.posts.items) c.bytes_of-bytes.ensures c.write_up.ensures.called)
+    (subst (λ (bytes : List ℕ). (m : Manager Half) → Represents c.args.own.now.core m → Plain c.write_up.result ≡ told_by_end c.args.end.s (Writes bytes) [] m) c.bytes_of-bytes.ensures c.write_up.ensures.told)
+    (subst (λ (bytes : List ℕ). (m : Manager Half) → Represents c.args.own.now.core m → IsCalledAt c.args.end.s (Writes bytes) (length c.args.moment.history.now + 1) m c.args.own.now c.write_up.new.own c.write_up.new.posts.items) c.bytes_of-bytes.ensures c.write_up.ensures.called)
 
 pub returns-in-FellBack : goal.returns-in-FellBack
 returns-in-FellBack c = λ theirs hosts.

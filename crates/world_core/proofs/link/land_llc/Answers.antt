@@ -5,7 +5,7 @@ use Rattle.pipe_model.specs.declared.flow.FlowStep.TheVariants.{Live}
 use Rattle.pipe_model.specs.declared.post.Post.{Post}
 use Rattle.rc_link.specs.Wire.{room_of}
 use Rattle.side_core.specs.Acting.{confirms_link, confirming_posts}
-use Rattle.side_core.specs.Manager.{StandsFor}
+use Rattle.side_core.specs.Manager.{Represents}
 use Rattle.world_core.specs.Sending.{goes_on_wire, puts_all, carried_from, MaySendAll}
 use Rattle.world_core.specs.Hosts.{with_posts, wire_at}
 use Rattle.world_core.proofs.LandingCases.{some-llc, llc-from}
@@ -60,8 +60,8 @@ send-requires-clause-may c =
     let due = did.posts was stood
     ∙ (ap (λ (ps : List Post). ps ++ confirming_posts c.land_llc.result m.link was) c.requires.none
     ∙ (ap (λ (r : FlowStep). confirming_posts r m.link was) step ∙ ap (λ (l : LinkId). confirming_posts (Live d.reply true) l was) d.link_is)) in
-    let acted = subst (λ (l : LinkId). StandsFor c.land_llc.new.self (confirms_link (Live d.reply true) l was)) d.link_is
-    (subst (λ (r : FlowStep). StandsFor c.land_llc.new.self (confirms_link r m.link was)) step (did.side was stood)) in
+    let acted = subst (λ (l : LinkId). Represents c.land_llc.new.self (confirms_link (Live d.reply true) l was)) d.link_is
+    (subst (λ (r : FlowStep). Represents c.land_llc.new.self (confirms_link r m.link was)) step (did.side was stood)) in
     subst (λ (ps : List Post). MaySendAll (length theirs.flows.items) c.land_llc.new.self ps) (sym slice.value)
     (posts-may-go at l.0 post own theirs l.1 few _ _ _ d.taking d.told c.land_llc.new.self c.land_llc.new.posts.items due acted)
 
@@ -84,8 +84,8 @@ send-requires-clause-room c =
     let due = did.posts was stood
     ∙ (ap (λ (ps : List Post). ps ++ confirming_posts c.land_llc.result m.link was) c.requires.none
     ∙ (ap (λ (r : FlowStep). confirming_posts r m.link was) step ∙ ap (λ (l : LinkId). confirming_posts (Live d.reply true) l was) d.link_is)) in
-    let acted = subst (λ (l : LinkId). StandsFor c.land_llc.new.self (confirms_link (Live d.reply true) l was)) d.link_is
-    (subst (λ (r : FlowStep). StandsFor c.land_llc.new.self (confirms_link r m.link was)) step (did.side was stood)) in
+    let acted = subst (λ (l : LinkId). Represents c.land_llc.new.self (confirms_link (Live d.reply true) l was)) d.link_is
+    (subst (λ (r : FlowStep). Represents c.land_llc.new.self (confirms_link r m.link was)) step (did.side was stood)) in
     subst (λ (ps : List Post). length (filter goes_on_wire ps) ≤ room_of (wire_at 1 theirs)) (sym slice.value)
     (posts-fit at l.0 post own theirs l.1 few _ _ _ d.taking d.told c.land_llc.new.self c.land_llc.new.posts.items due acted)
 
@@ -107,8 +107,8 @@ returns c = λ x landed.
     let due = did.posts was stood
     ∙ (ap (λ (ps : List Post). ps ++ confirming_posts c.land_llc.result m.link was) c.requires.none
     ∙ (ap (λ (r : FlowStep). confirming_posts r m.link was) step ∙ ap (λ (l : LinkId). confirming_posts (Live d.reply true) l was) d.link_is)) in
-    let acted = subst (λ (l : LinkId). StandsFor c.land_llc.new.self (confirms_link (Live d.reply true) l was)) d.link_is
-    (subst (λ (r : FlowStep). StandsFor c.land_llc.new.self (confirms_link r m.link was)) step (did.side was stood)) in
+    let acted = subst (λ (l : LinkId). Represents c.land_llc.new.self (confirms_link (Live d.reply true) l was)) d.link_is
+    (subst (λ (r : FlowStep). Represents c.land_llc.new.self (confirms_link r m.link was)) step (did.side was stood)) in
     let sent = c.send.ensures in
     message-lands at x post own theirs landed few _ _ _ d.taking d.told c.land_llc.new.self c.land_llc.new.posts.items due acted d.own_stands c.send.new.self (length at.history.now + 1) refl sent.core
     (λ n stands. sent.wire n stands ∙ ap (λ (ps : List Post). with_posts (carried_from n (length at.history.now + 1) 1 ps) (wire_at 1 theirs)) slice.value)

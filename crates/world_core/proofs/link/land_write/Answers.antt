@@ -1,5 +1,5 @@
 use Rattle.std.proofs.Common.{◌∙◌, ap, map, sym}
-use Rattle.rc_link.specs.declared.Carried.{Carried}
+use Rattle.rc_link.specs.declared.InFlight.{InFlight}
 use Rattle.rc_link.specs.Wire.{next_cdc}
 use Rattle.world_core.specs.Hosts.{wire_at}
 use Rattle.world_core.proofs.LandingCases.{some-write, write-from, on-slot, some-follows, may-go, may-write, write-lands}
@@ -17,7 +17,7 @@ unreachable-requires-in_default-next_cdc c =
     let w = c.in-Write in
     let is = write-from l.0 l.1 post own theirs l.2 l.3 w.from w.link w.key w.address w.len w.is in
     let slot = on-slot l.0 l.1 post own theirs l.2 l.3 w.link w.key w.address w.len is in
-    some-follows l.0 l.1 post own theirs l.2 l.3 w.link w.key w.address w.len is (ap (λ k. next_cdc (map (λ (d : Carried). d.post) (wire_at k own).waiting)) (sym slot) ∙ (sym c.next_cdc.ensures ∙ c.in_default-next_cdc.is))
+    some-follows l.0 l.1 post own theirs l.2 l.3 w.link w.key w.address w.len is (ap (λ k. next_cdc (map (λ (d : InFlight). d.post) (wire_at k own).waiting)) (sym slot) ∙ (sym c.next_cdc.ensures ∙ c.in_default-next_cdc.is))
 
 pub outgoing-requires : goal.outgoing-requires
 outgoing-requires c =
@@ -29,7 +29,7 @@ outgoing-requires c =
     let is = write-from l.0 l.1 post own theirs l.2 l.3 w.from w.link w.key w.address w.len w.is in
     let slot = on-slot l.0 l.1 post own theirs l.2 l.3 w.link w.key w.address w.len is in
     may-go l.0 l.1 post own theirs l.2 l.3 w.link w.key w.address w.len is c.in-Some.message
-    (ap (λ k. next_cdc (map (λ (d : Carried). d.post) (wire_at k own).waiting)) (sym slot) ∙ (sym c.next_cdc.ensures ∙ c.in-Some.is))
+    (ap (λ k. next_cdc (map (λ (d : InFlight). d.post) (wire_at k own).waiting)) (sym slot) ∙ (sym c.next_cdc.ensures ∙ c.in-Some.is))
 
 pub land_write-requires : goal.land_write-requires
 land_write-requires c =
@@ -41,7 +41,7 @@ land_write-requires c =
     let is = write-from l.0 l.1 post own theirs l.2 l.3 w.from w.link w.key w.address w.len w.is in
     let slot = on-slot l.0 l.1 post own theirs l.2 l.3 w.link w.key w.address w.len is in
     may-write l.0 l.1 post own theirs l.2 l.3 w.link w.key w.address w.len is c.in-Some.message
-    (ap (λ k. next_cdc (map (λ (d : Carried). d.post) (wire_at k own).waiting)) (sym slot) ∙ (sym c.next_cdc.ensures ∙ c.in-Some.is))
+    (ap (λ k. next_cdc (map (λ (d : InFlight). d.post) (wire_at k own).waiting)) (sym slot) ∙ (sym c.next_cdc.ensures ∙ c.in-Some.is))
     c.outgoing.result.0.now c.outgoing.result.1.now c.outgoing.ensures
 
 pub returns : goal.returns
@@ -53,5 +53,5 @@ returns c = λ at x landed few.
     let is = write-from at x post own theirs landed few w.from w.link w.key w.address w.len w.is in
     let slot = on-slot at x post own theirs landed few w.link w.key w.address w.len is in
     write-lands at x post own theirs landed few w.link w.key w.address w.len is c.in-Some.message
-    (ap (λ k. next_cdc (map (λ (d : Carried). d.post) (wire_at k own).waiting)) (sym slot) ∙ (sym c.next_cdc.ensures ∙ c.in-Some.is))
+    (ap (λ k. next_cdc (map (λ (d : InFlight). d.post) (wire_at k own).waiting)) (sym slot) ∙ (sym c.next_cdc.ensures ∙ c.in-Some.is))
     c.outgoing.result.0.now c.outgoing.result.1.now c.outgoing.ensures c.land_write.new.self c.land_write.ensures

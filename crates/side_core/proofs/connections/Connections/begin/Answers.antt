@@ -2,7 +2,7 @@ use Rattle.std.proofs.Common.{◌≡◌, ◌∙◌, ◌+◌, ◌<◌, List, [], 
 use Rattle.std.proofs.lemmas.List.{length-append}
 use Rattle.pipe_model.specs.Pipe.{Terms}
 use Rattle.pipe_model.specs.Ends.{fresh}
-use Rattle.conn_end.specs.Kept.{Kept, StandsFor}
+use Rattle.conn_end.specs.Kept.{Kept, Represents}
 use Rattle.side_core.specs.Records.{Connection, Records, AllStand, begins, new_route}
 use Rattle.side_core.specs.Inside.{IsTable, IsFiled, IsMade, made_with, records_of}
 use Rattle.side_core.proofs.Sockets.{named_last, table_begun, last_made}
@@ -49,4 +49,4 @@ returns-clause-begins c = λ r live.
     (λ all. begun_stands v w r c.args.s c.args.link c.args.element live new all refl tokens (omega (arith, ap length split, length-append left (end ∷ []))) c.put.ensures.slots within
     (ap (new_route c.args.link c.args.element) token)
     (c.start.ensures.new.size ∙ made.size)
-    (subst (λ n. StandsFor c.start.new.self (fresh n)) made.first c.start.ensures.end))
+    (subst (λ n. Represents c.start.new.self (fresh n)) made.first c.start.ensures.end))

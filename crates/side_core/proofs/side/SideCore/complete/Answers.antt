@@ -1,15 +1,17 @@
-use Rattle.std.proofs.Common.{◌≡◌, ◌++◌, ◌∙◌, ℕ, sym, subst, map, List, Some}
+use Rattle.std.proofs.Common.{refl, ◌≡◌, ◌++◌, ◌∙◌, ℕ, sym, subst, map, List, Some}
 use Rattle.conn_end.specs.Kept.{Kept}
 use Rattle.pipe_model.specs.declared.post.Post.{Post}
 use Rattle.pipe_model.specs.Ends.{completes}
+use Rattle.side_core.specs.declared.change.Change.{Change}
+use Rattle.side_core.specs.declared.change.Change.TheVariants.{Complete}
 use Rattle.side_core.specs.Records.{conn_at, aimer}
-use Rattle.side_core.specs.Comings.{CompletesAt}
+use Rattle.side_core.specs.Comings.{CompletesAt, MayCompleteAt}
 use Rattle.side_core.specs.Landing.{MayCompleteIn, CompletesIn}
 use Rattle.side_core.specs.Acting.{acts_at, due_at}
 use Rattle.side_core.specs.Fit.{IsManager}
-use Rattle.side_core.specs.Manager.{Manager, StandsFor, hand_of}
+use Rattle.side_core.specs.Manager.{Manager, Represents, hand_of}
 use Rattle.side_core.proofs.Sockets.{acts_fit, Ends, ends, ends_there, some_same}
-use Rattle.side_core.proofs.Ends.{IsWayOf, acted, acted_posts, completes_leave}
+use Rattle.side_core.proofs.Ends.{IsWayOf, acted, acted_posts, makes_at, may_come, completes_leave}
 use Rattle.side_core.proofs.side.SideCore.complete.Goals as goal
 
 pub invariant_of-self : goal.invariant_of-self
@@ -17,6 +19,7 @@ invariant_of-self c =
     let x = c.self.inside in
     let v : Manager Kept = record { desk = x.desk; hands = map hand_of x.hands.items; records = x.connections; regions = x.regions.items } in
     let s : ℕ = c.in-Some.s in
+    let change : Change = Complete c.args.message c.args.plain in
     let found : aimer c.args.message.now.token v.records ≡ Some s = sym c.aimer.ensures ∙ c.in-Some.is in
     let may : MayCompleteIn c.args.message.now c.args.plain.now v = subst (λ (u : Manager Kept). MayCompleteIn c.args.message.now c.args.plain.now u) (sym c.self.view_is) c.requires.may in
     let way_is : IsWayOf s c.way-way.result v = subst (λ (u : Manager Kept). IsWayOf s c.way-way.result u) (sym c.self.view_is) c.way-way.ensures in
@@ -24,8 +27,9 @@ invariant_of-self c =
     let one : Ends c.args.message.now c.args.plain.now (conn_at s v.records) (conn_at s i.plain.records) = ends c.args.message.now c.args.plain.now (conn_at s v.records) (conn_at s i.plain.records) (i.stands.works.records.each s) (may.sender s found) in
     record {
       plain = acts_at s (completes (Some one.sent)) i.plain;
-      stands = acted s (completes (Some one.sent)) c.way-way.result v c.completed.new.self i.plain (completes_leave one.sent) (ends_there c.args.message.now c.args.plain.now (conn_at s v.records) (may.sender s found)) way_is
-          (c.completed.ensures.end i.plain.records one.sent i.stands.works.records one.completes) i.stands;
+      stands = acted s (completes (Some one.sent)) c.way-way.result v c.change.new.self i.plain (completes_leave one.sent) (ends_there c.args.message.now c.args.plain.now (conn_at s v.records) (may.sender s found)) way_is
+          (c.change.ensures.end i.plain.records (completes (Some one.sent)) i.stands.works.records
+          (makes_at v.records.terms.size change (completes (Some one.sent)) (CompletesAt c.args.message.now c.args.plain.now one.sent) (λ p no. no) (λ k no. no) (λ k d is. record { sent = one.sent; done = is; is = refl }) (conn_at s v.records) (conn_at s i.plain.records) one.completes)) i.stands;
       fit = acts_fit s (completes (Some one.sent)) i.plain i.fit;
     }
 
@@ -34,31 +38,45 @@ returns-clause-side c = λ m t sent stands completes_at.
     let x = c.self.inside in
     let v : Manager Kept = record { desk = x.desk; hands = map hand_of x.hands.items; records = x.connections; regions = x.regions.items } in
     let s : ℕ = c.in-Some.s in
+    let change : Change = Complete c.args.message c.args.plain in
     let found : aimer c.args.message.now.token v.records ≡ Some s = sym c.aimer.ensures ∙ c.in-Some.is in
     let may : MayCompleteIn c.args.message.now c.args.plain.now v = subst (λ (u : Manager Kept). MayCompleteIn c.args.message.now c.args.plain.now u) (sym c.self.view_is) c.requires.may in
     let way_is : IsWayOf s c.way-way.result v = subst (λ (u : Manager Kept). IsWayOf s c.way-way.result u) (sym c.self.view_is) c.way-way.ensures in
-    let here : StandsFor v m = subst (λ (u : Manager Kept). StandsFor u m) (sym c.self.view_is) stands in
+    let here : Represents v m = subst (λ (u : Manager Kept). Represents u m) (sym c.self.view_is) stands in
     let in_v : CompletesIn t c.args.message.now c.args.plain.now sent v m = subst (λ (u : Manager Kept). CompletesIn t c.args.message.now c.args.plain.now sent u m) (sym c.self.view_is) completes_at in
     let same : s ≡ t = some_same s t (sym found ∙ in_v.aimed) in
     let at_s : CompletesAt c.args.message.now c.args.plain.now sent (conn_at s v.records) (conn_at s m.records) = subst (λ (k : ℕ). CompletesAt c.args.message.now c.args.plain.now sent (conn_at k v.records) (conn_at k m.records)) (sym same) in_v.completes in
-    let new : Manager Kept = record v { records = c.completed.new.self } in
-    subst (λ (k : ℕ). StandsFor new (acts_at k (completes (Some sent)) m)) same
-    (acted s (completes (Some sent)) c.way-way.result v c.completed.new.self m (completes_leave sent) (ends_there c.args.message.now c.args.plain.now (conn_at s v.records) (may.sender s found)) way_is
-    (c.completed.ensures.end m.records sent here.works.records at_s) here)
+    let new : Manager Kept = record v { records = c.change.new.self } in
+    subst (λ (k : ℕ). Represents new (acts_at k (completes (Some sent)) m)) same
+    (acted s (completes (Some sent)) c.way-way.result v c.change.new.self m (completes_leave sent) (ends_there c.args.message.now c.args.plain.now (conn_at s v.records) (may.sender s found)) way_is
+    (c.change.ensures.end m.records (completes (Some sent)) here.works.records
+    (makes_at v.records.terms.size change (completes (Some sent)) (CompletesAt c.args.message.now c.args.plain.now sent) (λ p no. no) (λ k no. no) (λ k d is. record { sent = sent; done = is; is = refl }) (conn_at s v.records) (conn_at s m.records) at_s)) here)
 
 pub returns-clause-posts : goal.returns-clause-posts
 returns-clause-posts c = λ m t sent stands completes_at.
     let x = c.self.inside in
     let v : Manager Kept = record { desk = x.desk; hands = map hand_of x.hands.items; records = x.connections; regions = x.regions.items } in
     let s : ℕ = c.in-Some.s in
+    let change : Change = Complete c.args.message c.args.plain in
     let found : aimer c.args.message.now.token v.records ≡ Some s = sym c.aimer.ensures ∙ c.in-Some.is in
     let may : MayCompleteIn c.args.message.now c.args.plain.now v = subst (λ (u : Manager Kept). MayCompleteIn c.args.message.now c.args.plain.now u) (sym c.self.view_is) c.requires.may in
     let way_is : IsWayOf s c.way-way.result v = subst (λ (u : Manager Kept). IsWayOf s c.way-way.result u) (sym c.self.view_is) c.way-way.ensures in
-    let here : StandsFor v m = subst (λ (u : Manager Kept). StandsFor u m) (sym c.self.view_is) stands in
+    let here : Represents v m = subst (λ (u : Manager Kept). Represents u m) (sym c.self.view_is) stands in
     let in_v : CompletesIn t c.args.message.now c.args.plain.now sent v m = subst (λ (u : Manager Kept). CompletesIn t c.args.message.now c.args.plain.now sent u m) (sym c.self.view_is) completes_at in
     let same : s ≡ t = some_same s t (sym found ∙ in_v.aimed) in
     let at_s : CompletesAt c.args.message.now c.args.plain.now sent (conn_at s v.records) (conn_at s m.records) = subst (λ (k : ℕ). CompletesAt c.args.message.now c.args.plain.now sent (conn_at k v.records) (conn_at k m.records)) (sym same) in_v.completes in
     let before : List Post = c.args.posts.now.items in
-    let after : List Post = c.completed.new.posts.items in
+    let after : List Post = c.change.new.posts.items in
     subst (λ (k : ℕ). after ≡ before ++ due_at k (completes (Some sent)) m) same
-    (acted_posts s (completes (Some sent)) c.way-way.result v m before after (completes_leave sent) way_is (c.completed.ensures.posts m.records sent here.works.records at_s) here)
+    (acted_posts s (completes (Some sent)) c.way-way.result v m before after (completes_leave sent) way_is (c.change.ensures.posts m.records (completes (Some sent)) here.works.records
+    (makes_at v.records.terms.size change (completes (Some sent)) (CompletesAt c.args.message.now c.args.plain.now sent) (λ p no. no) (λ k no. no) (λ k d is. record { sent = sent; done = is; is = refl }) (conn_at s v.records) (conn_at s m.records) at_s)) here)
+
+pub change-requires-clause-may : goal.change-requires-clause-may
+change-requires-clause-may c =
+    let x = c.self.inside in
+    let v : Manager Kept = record { desk = x.desk; hands = map hand_of x.hands.items; records = x.connections; regions = x.regions.items } in
+    let s : ℕ = c.in-Some.s in
+    let change : Change = Complete c.args.message c.args.plain in
+    let found : aimer c.args.message.now.token v.records ≡ Some s = sym c.aimer.ensures ∙ c.in-Some.is in
+    let may : MayCompleteIn c.args.message.now c.args.plain.now v = subst (λ (u : Manager Kept). MayCompleteIn c.args.message.now c.args.plain.now u) (sym c.self.view_is) c.requires.may in
+    may_come change (MayCompleteAt c.args.message.now c.args.plain.now) (λ no. no) (λ k is. is) (conn_at s v.records) (may.sender s found)

@@ -8,7 +8,7 @@ use Rattle.conn_end.specs.Kept.{Kept}
 use Rattle.side_core.specs.Records.{conn_at}
 use Rattle.side_core.specs.Acting.{IsSoundAt}
 use Rattle.side_core.specs.Fit.{Allows, IsManager}
-use Rattle.side_core.specs.Manager.{Manager, StandsFor, hand_of, hand_at, state_at}
+use Rattle.side_core.specs.Manager.{Manager, Represents, hand_of, hand_at, state_at}
 use Rattle.side_core.specs.Taking.{MayTake, takes_message, verdict_at}
 use Rattle.side_core.proofs.Managers.{judged, never_asks, same_verdict, taken_kept, taken_stands, working}
 use Rattle.side_core.proofs.side.SideCore.take_clc.Goals as goal
@@ -54,8 +54,8 @@ returns-clause-side c = λ m stands.
     let w : Manager Kept = record { desk = c.carry_out.new.desk; hands = map hand_of c.judge-step.new.hands.items; records = c.carry_out.new.connections; regions = x.regions.items } in
     let step : ClcStep = c.judge-step.result in
     let is : step ≡ verdict_at c.args.s c.args.message.now c.args.paths.now v = c.judge-step.ensures.step ∙ ap (λ (l : Lacks). verdict (hand_at c.args.s v).raw (state_at c.args.s v) c.args.message.now l) c.lacks-lacks.ensures in
-    let here : StandsFor v m = subst (λ (u : Manager Kept). StandsFor u m) (sym c.self.view_is) stands in
-    subst (λ (l : LinkId). StandsFor w (takes_message c.args.s c.args.message.now l c.args.paths.now m)) c.unwrap_or-link.ensures
+    let here : Represents v m = subst (λ (u : Manager Kept). Represents u m) (sym c.self.view_is) stands in
+    subst (λ (l : LinkId). Represents w (takes_message c.args.s c.args.message.now l c.args.paths.now m)) c.unwrap_or-link.ensures
     (taken_stands c.args.s c.args.message.now c.unwrap_or-link.result c.args.paths.now v w m step here (is ∙ same_verdict c.args.s c.args.message.now c.args.paths.now v m here) (c.carry_out.ensures.works m here.works) c.judge-step.ensures.hands refl)
 
 pub carry_out-requires-clause-working : goal.carry_out-requires-clause-working

@@ -1,12 +1,14 @@
-use Rattle.std.proofs.Common.{◌∙◌, sym, subst, ap, IsSome, map}
+use Rattle.std.proofs.Common.{refl, true≢false, ◌∙◌, sym, subst, ap, IsSome, map}
 use Rattle.conn_end.specs.Kept.{Kept}
 use Rattle.pipe_model.specs.Calls.{Call, Writes}
+use Rattle.side_core.specs.declared.change.Change.{Change}
+use Rattle.side_core.specs.declared.change.Change.TheVariants.{Write}
 use Rattle.side_core.specs.Records.{conn_at}
-use Rattle.side_core.specs.Acting.{call_of, acts_at}
+use Rattle.side_core.specs.Acting.{IsSoundAt, call_of, acts_at}
 use Rattle.side_core.specs.Fit.{IsManager}
-use Rattle.side_core.specs.Manager.{Manager, StandsFor, hand_of, state_at}
+use Rattle.side_core.specs.Manager.{Manager, Represents, hand_of, state_at}
 use Rattle.side_core.proofs.Sockets.{acts_fit}
-use Rattle.side_core.proofs.Ends.{IsWayOf, called, called_posts, writes_leave, write_told}
+use Rattle.side_core.proofs.Ends.{IsWayOf, called, called_posts, may_come, writes_leave, write_told}
 use Rattle.side_core.proofs.Managers.{up_has}
 use Rattle.side_core.proofs.side.SideCore.write.Goals as goal
 
@@ -15,12 +17,13 @@ invariant_of-self c =
     let x = c.self.inside in
     let v : Manager Kept = record { desk = x.desk; hands = map hand_of x.hands.items; records = x.connections; regions = x.regions.items } in
     let i : IsManager v = c.self.invariant in
+    let change : Change = Write c.args.bytes in
     let call : Call = Writes c.args.bytes.now in
     let way_is : IsWayOf c.args.s c.way-way.result v = subst (λ (u : Manager Kept). IsWayOf c.args.s c.way-way.result u) (sym c.self.view_is) c.way-way.ensures in
     let there : IsSome (conn_at c.args.s v.records) = up_has c.args.s v i (ap (state_at c.args.s) c.self.view_is ∙ c.requires.up) in
     record {
       plain = acts_at c.args.s (call_of call i.plain) i.plain;
-      stands = called c.args.s call c.way-way.result v c.write.new.self i.plain (writes_leave c.args.bytes.now) there way_is c.write.ensures.end i.stands;
+      stands = called c.args.s call change c.way-way.result v c.change.new.self i.plain (writes_leave c.args.bytes.now) (λ k d stands. record { stands = stands.end; is = refl }) there way_is c.change.ensures.end i.stands;
       fit = acts_fit c.args.s (call_of call i.plain) i.plain i.fit;
     }
 
@@ -28,23 +31,36 @@ pub returns-clause-told : goal.returns-clause-told
 returns-clause-told c = λ m stands.
     let x = c.self.inside in
     let v : Manager Kept = record { desk = x.desk; hands = map hand_of x.hands.items; records = x.connections; regions = x.regions.items } in
-    let here : StandsFor v m = subst (λ (u : Manager Kept). StandsFor u m) (sym c.self.view_is) stands in
-    write_told c.args.s c.args.bytes.now v m c.write.result c.reply_of.result here (c.write.ensures.told m.records here.works.records) c.reply_of.ensures
+    let here : Represents v m = subst (λ (u : Manager Kept). Represents u m) (sym c.self.view_is) stands in
+    write_told c.args.s c.args.bytes.now v m c.change.result c.reply_of.result here (c.change.ensures.told m.records here.works.records) c.reply_of.ensures
 
 pub returns-clause-side : goal.returns-clause-side
 returns-clause-side c = λ m stands.
     let x = c.self.inside in
     let v : Manager Kept = record { desk = x.desk; hands = map hand_of x.hands.items; records = x.connections; regions = x.regions.items } in
     let i : IsManager v = c.self.invariant in
+    let change : Change = Write c.args.bytes in
     let call : Call = Writes c.args.bytes.now in
     let way_is : IsWayOf c.args.s c.way-way.result v = subst (λ (u : Manager Kept). IsWayOf c.args.s c.way-way.result u) (sym c.self.view_is) c.way-way.ensures in
     let there : IsSome (conn_at c.args.s v.records) = up_has c.args.s v i (ap (state_at c.args.s) c.self.view_is ∙ c.requires.up) in
-    called c.args.s call c.way-way.result v c.write.new.self m (writes_leave c.args.bytes.now) there way_is c.write.ensures.end (subst (λ (u : Manager Kept). StandsFor u m) (sym c.self.view_is) stands)
+    called c.args.s call change c.way-way.result v c.change.new.self m (writes_leave c.args.bytes.now) (λ k d stands. record { stands = stands.end; is = refl }) there way_is c.change.ensures.end (subst (λ (u : Manager Kept). Represents u m) (sym c.self.view_is) stands)
 
 pub returns-clause-posts : goal.returns-clause-posts
 returns-clause-posts c = λ m stands.
     let x = c.self.inside in
     let v : Manager Kept = record { desk = x.desk; hands = map hand_of x.hands.items; records = x.connections; regions = x.regions.items } in
+    let change : Change = Write c.args.bytes in
+    let i : IsManager v = c.self.invariant in
     let call : Call = Writes c.args.bytes.now in
     let way_is : IsWayOf c.args.s c.way-way.result v = subst (λ (u : Manager Kept). IsWayOf c.args.s c.way-way.result u) (sym c.self.view_is) c.way-way.ensures in
-    called_posts c.args.s call c.way-way.result v m c.args.posts.now.items c.write.new.posts.items (writes_leave c.args.bytes.now) way_is c.write.ensures.posts (subst (λ (u : Manager Kept). StandsFor u m) (sym c.self.view_is) stands)
+    let there : IsSome (conn_at c.args.s v.records) = up_has c.args.s v i (ap (state_at c.args.s) c.self.view_is ∙ c.requires.up) in
+    called_posts c.args.s call change c.way-way.result v m c.args.posts.now.items c.change.new.posts.items (writes_leave c.args.bytes.now) (λ k d stands. record { stands = stands.end; is = refl }) there way_is c.change.ensures.posts (subst (λ (u : Manager Kept). Represents u m) (sym c.self.view_is) stands)
+
+pub change-requires-clause-may : goal.change-requires-clause-may
+change-requires-clause-may c =
+    let x = c.self.inside in
+    let v : Manager Kept = record { desk = x.desk; hands = map hand_of x.hands.items; records = x.connections; regions = x.regions.items } in
+    let sound : IsSoundAt v.records.terms.size (conn_at c.args.s v.records) = subst (λ (u : Manager Kept). IsSoundAt u.records.terms.size (conn_at c.args.s u.records)) (sym c.self.view_is) c.requires.sound in
+    let there : IsSome (conn_at c.args.s v.records) = up_has c.args.s v c.self.invariant (ap (state_at c.args.s) c.self.view_is ∙ c.requires.up) in
+    let change : Change = Write c.args.bytes in
+    may_come change (λ o. IsSome o × IsSoundAt v.records.terms.size o) (λ is. true≢false (sym is.0)) (λ k is. is.1.accepted) (conn_at c.args.s v.records) (there, sound)
