@@ -1,25 +1,13 @@
 //! The program `smcr`: it reads a scene, runs it, and writes the history.
 //!
-//! [`top::smcr`] does all that the program does, over any source and sink: the text that it writes is
-//! the text of the one history whose events are those of the bytes read, and each status comes only
-//! for its cause. `main` only hands it the real words, standard input and standard output.
+//! `main` hands the real words, standard input and standard output to [`smcr_calls::smcr`], which does
+//! all that the program does.
 #![tactic(auto)]
 
-mod fields;
-mod headline;
-mod print;
-mod print_posts;
-mod print_replies;
-mod run;
-mod show;
-mod show_text;
-mod spell;
-mod top;
-
 use byte_port::{ReaderSource, WriterSink};
+use smcr_calls::{Status, smcr};
 use std::process::ExitCode;
 use std::{env, io};
-use top::{Status, smcr};
 
 /// Runs the program with the real words, standard input and standard output. Words that are no text
 /// are no command.
@@ -51,10 +39,3 @@ fn serve(rt: &HostRuntime, words: &[&str]) -> Status {
 fn main(rt: HostRuntime) -> ExitCode {
     ExitCode::from(run_program(&rt) as u8)
 }
-
-#[cfg(test)]
-mod print_tests;
-#[cfg(test)]
-mod tests;
-#[cfg(test)]
-mod world_tests;

@@ -1,0 +1,13 @@
+pub mod RunsOfBytes
+pub mod Runs
+pub mod Worlds
+pub mod Inputs
+pub mod LawfulRuns
+pub mod Chains
+pub mod Shares
+pub mod Showing
+pub mod Putting
+pub mod Listing
+pub mod Sent
+pub mod Complete
+pub mod Opens

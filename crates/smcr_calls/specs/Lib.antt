@@ -1,0 +1,9 @@
+pub mod Answers
+pub mod Histories
+pub mod Opens
+pub mod Prints
+pub mod Shares
+pub mod Runs
+pub mod ShowLines
+pub mod ShowText
+pub mod Top

@@ -1,5 +1,0 @@
-use Rattle.smcr_cli.proofs.Chains.{first_cut}
-use Rattle.smcr_cli.proofs.show_text.put_refusal_fields.Goals as goal
-
-pub returns-in_err-put_hex_field-clause-wrote : goal.returns-in_err-put_hex_field-clause-wrote
-returns-in_err-put_hex_field-clause-wrote g c = first_cut _ _ _ _ _ c.from_residual.result _ c.from_residual.ensures.0 c.in_err-put_hex_field.ensures.wrote

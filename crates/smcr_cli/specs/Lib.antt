@@ -1,8 +1,0 @@
-pub mod Answers
-pub mod Histories
-pub mod Prints
-pub mod Shares
-pub mod Runs
-pub mod ShowLines
-pub mod ShowText
-pub mod Top
