@@ -200,6 +200,3 @@ pub fn order_of_answers()
     ensures chains { (first second third : News) → Later first second → Later second third → Later first third }
     ensures last { (log : List Alert) (answer seen : News) → Later (last_of log) answer → Later answer seen → IsOf log seen → answer ≡ last_of log }
 {}
-
-#[cfg(test)]
-mod tests;

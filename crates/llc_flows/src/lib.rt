@@ -467,6 +467,3 @@ impl Flows {
         self.drops.clear();
     }
 }
-
-#[cfg(test)]
-mod tests;

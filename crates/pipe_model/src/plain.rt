@@ -15,8 +15,6 @@ mod links;
 mod lists;
 mod news;
 mod pipe;
-#[cfg(test)]
-mod tests;
 
 pub use asked::{PlainCall, PlainTold};
 pub use end::PlainEnd;

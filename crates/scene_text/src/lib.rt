@@ -21,6 +21,3 @@ pub use grammar::{are_printable, fault_at, is_passed_over, read_scene, without_r
 pub use print::{print_scene, scenes_are_read_back};
 pub use scenes::{Scene, SceneLine, SceneWhat, built_setup};
 pub use words::{byte_of, cut, words_of};
-
-#[cfg(test)]
-mod tests;

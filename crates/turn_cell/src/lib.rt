@@ -21,6 +21,3 @@ pub use crate::machine::Machine;
 pub use crate::pass::Pass;
 pub use crate::refusal::{Busy, SeatsSpent, StillOut};
 pub use crate::turn::Turn;
-
-#[cfg(test)]
-mod tests;

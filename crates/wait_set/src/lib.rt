@@ -100,6 +100,3 @@ impl WaitSet {
         Some((waiting.member.place, news))
     }
 }
-
-#[cfg(test)]
-mod tests;

@@ -1,5 +1,0 @@
-use Rattle.std.proofs.Common.{◌≡◌}
-use Rattle.alert_board.proofs.tests.poll_often.Given as goal
-
-abbrev pub invariant-loop : goal.invariant-loop
-invariant-loop l = l.look.board ≡ l.board
