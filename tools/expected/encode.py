@@ -1,15 +1,24 @@
 """The trace of a history, made from its text: what `smcr trace` gives for the scene of the history.
 
-The check feeds tools/to-pcapng with it. Settings are the defaults but for the number of links; sockets
-are numbered in the order in which the entries name them. docs/definitions.md has the numbers of keys,
-tokens and queue pairs, and the codecs' specifications the layouts.
+usage: encode.py SCENE OUT > FILE
+
+OUT is what `smcr run` gives for SCENE; where that refuses the scene, `smcr trace` gives the same text.
+tools/check feeds tools/to-pcapng with traces, and scenes/check compares those of the program. Settings
+are the defaults but for the number of links, and the size and A's subnet that a scene sets; sockets are
+numbered in the order in which the entries name them. docs/definitions.md has the numbers of keys, tokens
+and queue pairs, and the codecs' specifications the layouts.
 """
 
+import os
+import re
 import struct
+import sys
 
-from facts import Facts
-from history import socket_of
-from trace import CDC, CLC, HEAD, LLC, MAGIC, WRITE
+sys.dont_write_bytecode = True
+sys.path.insert(0, os.path.join(os.path.dirname(os.path.abspath(__file__)), ".."))
+from facts import Facts  # noqa: E402
+from history import NoHistory, read_history, socket_of  # noqa: E402
+from trace import CDC, CLC, HEAD, LLC, MAGIC, WRITE  # noqa: E402
 
 EYE = b"\xe2\xd4\xc3\xd9"
 KINDS = {"clc": CLC, "llc": LLC, "cdc": CDC, "write": WRITE}
@@ -42,9 +51,13 @@ def number(text):
 class Encoder:
     """What the messages hold beside what their text says."""
 
-    def __init__(self, links, first_socket):
+    def __init__(self, links, first_socket, scene):
         self.links = links
         self.first_socket = first_socket
+        size = re.search(r"^set size (\d+)$", scene, re.M)
+        self.size = int(size[1]) if size else 0
+        subnet = re.search(r"^set subnet A (\d+)\.(\d+)\.(\d+)\.(\d+)/(\d+)$", scene, re.M)
+        self.subnet = bytes(map(int, subnet.groups())) if subnet else bytes([10, 0, 0, 0, 24])
         self.facts = Facts()
         self.made = {"A": 0, "B": 0}  # queue pairs
         self.pairs = {}  # by side and slot, the latest
@@ -64,8 +77,8 @@ class Encoder:
     def clc(self, post, entry, is_new_link):
         side, fields = post.side, post.fields
         if fields["step"]:
-            area = bytes([10, 0, 0, 0, 24, 0, 0, 0])
-            return clc(1, 0, peer_id(side) + gid(side, 1) + mac(side, 1) + bytes(2) + area)
+            area = bytes(2) + self.subnet + bytes(3)
+            return clc(1, 0, peer_id(side) + gid(side, 1) + mac(side, 1) + area)
         if fields["refusal"]:
             return clc(4, 8 if fields["out"] else 0, peer_id(side) + struct.pack(">II", number(fields["diagnosis"]), 0))
         group, slot, _ = (int(part) for part in fields["link"].split("."))
@@ -73,7 +86,8 @@ class Encoder:
         key, rmb = number(fields["key"]), number(fields["rmb"])
         self.rmb_of[side, key] = rmb
         body = peer_id(side) + gid(side, slot) + mac(side, slot) + self.pair(side, slot, first)
-        body += struct.pack(">IBIBBQB", key, number(fields["index"]), number(fields["token"]), MTU, 0, rmb << 32, 0)
+        element = number(fields["index"]), number(fields["token"])
+        body += struct.pack(">IBIBBQB", key, *element, self.size << 4 | MTU, 0, rmb << 32, 0)
         return clc(2 if fields["offer"] == "accept" else 3, 8 if first else 0, body + group.to_bytes(3, "big"))
 
     def llc(self, post, entry, is_new_link):
@@ -157,7 +171,20 @@ def pairs_of(post):
     return [tuple(map(int, word.split("="))) for word in words if "=" in word]
 
 
-def trace_of(history, links=1, first_socket=0):
-    encoder = Encoder(links, first_socket)
+def trace_of(history, links=1, first_socket=0, scene=""):
+    encoder = Encoder(links, first_socket, scene)
     frames = [frame for entry in history.entries for frame in encoder.frames(entry)]
     return MAGIC + b"".join(frames) + bytes(4) + len(frames).to_bytes(4, "big")
+
+
+def main():
+    scene, told = (open(path, encoding="utf-8").read() for path in sys.argv[1:])
+    try:
+        data = trace_of(read_history(told), scene=scene)
+    except NoHistory:
+        data = told.encode()
+    sys.stdout.buffer.write(data)
+
+
+if __name__ == "__main__":
+    main()
